@@ -1,0 +1,46 @@
+//! CRC-8, the check of identifiers and of halves.
+
+ghost use mathlib.Core.Path.{_≡_};
+ghost use Prim.Native.Nat.{ℕ, _<_, _≤_, _*_, _^_};
+ghost use lib.Bits.{bitXor};
+ghost use Rattle.coding.specs.Bits.{bits, octetBits};
+ghost use Rattle.coding.specs.Polynomial.{reduced, remainder};
+ghost use Rattle.coding.specs.Crc.{crc8 as crc, divisor};
+
+/// x^8 + x^7 + x^6 + x^4 + x^2 + 1.
+const DIVISOR: u16 = 0b1_1101_0101;
+
+/// The CRC-8 of the bits of `octets`, each octet's high bit first.
+pub fn crc8(octets: &[u8]) -> u8
+    ensures { λ r. ⌜ r ≡ crc (octetBits (now (octets .entry))) ⌝ }
+{
+    let mut register = 0xFF;
+    for octet in octets {
+        register = after_octet(register, *octet);
+    }
+    register
+}
+
+/// The register after the eight bits of an octet.
+fn after_octet(start: u8, octet: u8) -> u8
+    ensures { λ r. ⌜ r ≡ remainder 8 divisor start (bits 8 octet) ⌝ }
+{
+    let mut register = start;
+    for i in (0..8u32).rev() {
+        register = after_bit(register, (octet >> i) & 1);
+    }
+    register
+}
+
+/// The register after one bit: a step of the long division.
+fn after_bit(register: u8, bit: u8) -> u8
+    requires { ⌜ bit < 2 ⌝ }
+    ensures { λ r. ⌜ r ≡ reduced 8 divisor (bitXor (register * 2) (bit * 2 ^ 8)) ⌝ }
+{
+    let moved = (u16::from(register) * 2) ^ (u16::from(bit) * 256);
+    if moved < 256 {
+        moved as u8
+    } else {
+        (moved ^ DIVISOR) as u8
+    }
+}
