@@ -1,0 +1,62 @@
+use native.Mathlib.Omega.{arith}
+use mathlib.Core.Path.{_≡_, refl, sym, ap, _∙_}
+use mathlib.Core.Bool.{Bool, true, false, cond}
+use mathlib.Core.List.{List}
+use Prim.Native.Nat.{ℕ, _-_}
+use lib.ListN.{length, take, drop, getD}
+use Rattle.std.specs.Options.{mapped, okOr}
+use Rattle.std.specs.declared.option.Option.{Option}
+use Rattle.std.specs.declared.option.Option.the-variants.{Some, None}
+use Rattle.std.specs.declared.result.Result.the-variants.{Ok, Err}
+use Rattle.std.proofs.shelf.Parts.{between-to-end}
+use Rattle.std.proofs.shelf.Tests.{cond-true, eq-eqb}
+use Rattle.std.proofs.shelf.Ways.{tells}
+use Rattle.coding.specs.Bits.{octetBits}
+use Rattle.coding.specs.Crc.{crc8}
+use Rattle.card.specs.Fields.{keepsFirstOctet}
+use Rattle.card.specs.Card.{octetsIn, identifierOf}
+use Rattle.card.specs.declared.identifier.Identifier.{Identifier}
+use Rattle.card.specs.declared.refusal.CardRefusal.{CardRefusal}
+use Rattle.card.specs.declared.refusal.CardRefusal.the-variants.{CheckOctet, FirstOctet}
+use Rattle.card.proofs.identifier.Identifier.open.Needs as need
+
+-- what the pattern leaves after the first octet
+rest-of : (s : List ℕ) → length s ≡ 9 → take (length s - 1) (drop 1 s) ≡ drop 1 s
+rest-of s l = between-to-end s 1 (length s) (omega arith)
+
+wrong-check : (s : List ℕ) → length s ≡ 9 → (getD s 0 0 ≡ crc8 (octetBits (drop 1 s)) → ⊥) → Err CheckOctet ≡ identifierOf s
+wrong-check s l n = grind (arith, tells)
+
+refused-or : (b : Bool) (d : List ℕ) → okOr (cond b (Some d) None) FirstOctet ≡ cond b (Ok d) (Err FirstOctet)
+refused-or true d = refl
+refused-or false d = refl
+
+right-check : (s : List ℕ) → length s ≡ 9 → getD s 0 0 ≡ crc8 (octetBits (drop 1 s))
+    → okOr (cond (keepsFirstOctet (drop 1 s)) (Some (drop 1 s)) None) FirstOctet ≡ identifierOf s
+right-check s l e =
+    refused-or (keepsFirstOctet (drop 1 s)) (drop 1 s)
+    ∙ sym (cond-true _ _ (Err CheckOctet) (eq-eqb (getD s 0 0) (crc8 (octetBits (drop 1 s))) e))
+    ∙ sym (cond-true _ _ _ (eq-eqb (length s) 9 l))
+
+octets-in : (o : Option Identifier) (e : CardRefusal) → octetsIn (okOr o e) ≡ okOr (mapped (λ d. d .octets) o) e
+octets-in None e = refl
+octets-in (Some d) e = refl
+
+pub returns-then-check-crc8 : need.returns-then-check-crc8
+returns-then-check-crc8 c =
+    let s = c .args .octets .now in
+    let l : length s ≡ 9 = omega arith in
+    let r = rest-of s l in
+    wrong-check s l (λ e. c .if-check-crc8 .taken (cc))
+
+pub returns : need.returns
+returns c =
+    let s = c .args .octets .now in
+    let l : length s ≡ 9 = omega arith in
+    let r = rest-of s l in
+    let d : c .copy-from-slice .last .self ≡ drop 1 s = cc in
+    ap octetsIn (c .ok-or .ensures .value)
+    ∙ octets-in (c .new .result) FirstOctet
+    ∙ ap (λ (o : Option (List ℕ)). okOr o FirstOctet) (c .new .ensures)
+    ∙ ap (λ (z : List ℕ). okOr (cond (keepsFirstOctet z) (Some z) None) FirstOctet) d
+    ∙ right-check s l (cc)

@@ -1,0 +1,14 @@
+//! The card that a modulator announces: its identifier and up to four fields.
+
+mod card;
+mod fields;
+mod identifier;
+mod opening;
+mod refusal;
+
+pub use card::Card;
+pub use fields::Coordinate;
+pub use fields::Message;
+pub use fields::Telephone;
+pub use identifier::Identifier;
+pub use refusal::CardRefusal;
