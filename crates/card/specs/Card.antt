@@ -85,30 +85,34 @@ unfoldable pub firstFailing : (ℕ → Bool) → List ℕ → ℕ
 firstFailing p [] = 1
 firstFailing p (x ∷ xs) = cond (p x) (suc (firstFailing p xs)) 1
 
+-- an answer, and where it accepts, another
+abbrev pub andThen : Result (Unit {0}) CardRefusal → Result (Unit {0}) CardRefusal → Result (Unit {0}) CardRefusal
+andThen (Ok x) r = r
+andThen (Err e) r = Err e
+
+-- accepted where the test holds, else refused
+abbrev pub unless : CardRefusal → Bool → Result (Unit {0}) CardRefusal
+unless e test = cond test (Ok tt) (Err e)
+
 abbrev pub symbolsAnswer : List ℕ → Result (Unit {0}) CardRefusal
-symbolsAnswer t = cond (each isSymbol t) (Ok tt) (Err (TelephoneSymbol (firstFailing isSymbol t)))
+symbolsAnswer t = unless (TelephoneSymbol (firstFailing isSymbol t)) (each isSymbol t)
 
 abbrev pub telephoneAnswer : List ℕ → Result (Unit {0}) CardRefusal
-telephoneAnswer t =
-    cond (lengthWithin 18 t)
-    (cond (each isSymbol t)
-    (cond (extensionInside t) (Ok tt) (Err TelephoneExtension))
-    (Err (TelephoneSymbol (firstFailing isSymbol t))))
-    (Err TelephoneLength)
+telephoneAnswer t = andThen (unless TelephoneLength (lengthWithin 18 t)) (andThen (symbolsAnswer t) (unless TelephoneExtension (extensionInside t)))
+
+abbrev pub octetsAnswer : List ℕ → Result (Unit {0}) CardRefusal
+octetsAnswer t = unless (MessageOctet (firstFailing isPrinting t)) (each isPrinting t)
 
 abbrev pub messageAnswer : List ℕ → Result (Unit {0}) CardRefusal
-messageAnswer t =
-    cond (lengthWithin 24 t)
-    (cond (each isPrinting t) (Ok tt) (Err (MessageOctet (firstFailing isPrinting t))))
-    (Err MessageLength)
+messageAnswer t = andThen (unless MessageLength (lengthWithin 24 t)) (octetsAnswer t)
 
 -- The answer to an act: accepted, or its refusal, the checks in the order written.
 abbrev pub answerTo : Act → Result (Unit {0}) CardRefusal
-answerTo (enterLatitude p) = cond (isLatitude p) (Ok tt) (Err Latitude)
-answerTo (enterLongitude p) = cond (isLongitude p) (Ok tt) (Err Longitude)
+answerTo (enterLatitude p) = unless Latitude (isLatitude p)
+answerTo (enterLongitude p) = unless Longitude (isLongitude p)
 answerTo (enterTelephone t) = telephoneAnswer t
 answerTo (enterMessage t) = messageAnswer t
-answerTo (clearField k) = cond (leb 1 k && leb k 4) (Ok tt) (Err NoSuchField)
+answerTo (clearField k) = unless NoSuchField (leb 1 k && leb k 4)
 
 abbrev pub withLatitude : Option Coordinate → CardValue → CardValue
 withLatitude o c = record { identifier = c .identifier; latitude = o; longitude = c .longitude; telephone = c .telephone; message = c .message }

@@ -1,12 +1,14 @@
 //! The card that a modulator announces: its identifier and up to four fields.
 
 mod card;
+mod checking;
 mod fields;
 mod identifier;
 mod opening;
 mod refusal;
 
 pub use card::Card;
+pub use checking::symbol_code;
 pub use fields::Coordinate;
 pub use fields::Message;
 pub use fields::Telephone;

@@ -37,7 +37,11 @@ impl Identifier {
     pub fn new(octets: [u8; 8]) -> Option<Identifier>
         ensures { λ r. ⌜ mapped (λ d. d .octets) r ≡ cond (keepsFirstOctet octets) (Some octets) None ⌝ }
     {
-        if keeps_first_octet(&octets) { Some(Identifier { octets }) } else { None }
+        if keeps_first_octet(&octets) {
+            Some(Identifier { octets })
+        } else {
+            None
+        }
     }
 
     /// The eight octets.
@@ -71,7 +75,13 @@ impl Card {
     pub fn blank(identifier: Identifier) -> Card
         ensures { λ r. ⌜ valueOf r ≡ blank (identifier .octets) ⌝ }
     {
-        Card { identifier, latitude: None, longitude: None, telephone: None, message: None }
+        Card {
+            identifier,
+            latitude: None,
+            longitude: None,
+            telephone: None,
+            message: None,
+        }
     }
 
     /// Opens a card by nine octets, the check octet first. Every field is missing.
