@@ -106,6 +106,19 @@ octetsAnswer t = unless (MessageOctet (firstFailing isPrinting t)) (each isPrint
 abbrev pub messageAnswer : List ℕ → Result (Unit {0}) CardRefusal
 messageAnswer t = andThen (unless MessageLength (lengthWithin 24 t)) (octetsAnswer t)
 
+-- a value where the answer accepts it
+abbrev pub whereAccepted : {V : Type 0} → V → Result (Unit {0}) CardRefusal → Result V CardRefusal
+whereAccepted v (Ok x) = Ok v
+whereAccepted v (Err e) = Err e
+
+abbrev pub symbolsIn : Result Telephone CardRefusal → Result (List ℕ) CardRefusal
+symbolsIn (Ok t) = Ok (symbolsOf t)
+symbolsIn (Err e) = Err e
+
+abbrev pub messageIn : Result Message CardRefusal → Result (List ℕ) CardRefusal
+messageIn (Ok m) = Ok (octetsOf m)
+messageIn (Err e) = Err e
+
 -- The answer to an act: accepted, or its refusal, the checks in the order written.
 abbrev pub answerTo : Act → Result (Unit {0}) CardRefusal
 answerTo (enterLatitude p) = unless Latitude (isLatitude p)

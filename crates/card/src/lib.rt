@@ -1,11 +1,14 @@
 //! The card that a modulator announces: its identifier and up to four fields.
 
+mod buffer;
 mod card;
 mod checking;
+mod entering;
 mod fields;
 mod identifier;
 mod opening;
 mod refusal;
+mod texts;
 
 pub use card::Card;
 pub use checking::symbol_code;

@@ -1,0 +1,37 @@
+-- What is accepted is lawful.
+use mathlib.Core.Path.{_≡_, refl}
+use mathlib.Core.Bool.{Bool, true, false, _&&_}
+use mathlib.Core.List.{List}
+use Prim.Native.Nat.{ℕ, _≤_}
+use native.Mathlib.Omega.{arith}
+use lib.Dec.{leb}
+use lib.ListN.{length}
+use Rattle.std.proofs.shelf.Tests.{and-parts, leb-true}
+use Rattle.std.specs.declared.result.Result.the-variants.{Ok, Err}
+use Rattle.card.specs.Fields.{each, lengthWithin, isSymbol, extensionInside, isTelephone, isPrinting, isMessage}
+use Rattle.card.specs.Card.{unless, andThen, firstFailing, telephoneAnswer, messageAnswer}
+use Rattle.card.specs.declared.refusal.CardRefusal.{CardRefusal}
+use Rattle.card.specs.declared.refusal.CardRefusal.the-variants.{TelephoneLength, TelephoneSymbol, TelephoneExtension, MessageLength, MessageOctet}
+
+-- two tests in a row
+both : (e f : CardRefusal) (x y : Bool) (u : Unit {0}) → andThen (unless e x) (unless f y) ≡ Ok u → (x && y) ≡ true
+both e f true true u h = refl
+both e f true false u h = let k : _≡_ {A = ℕ} 0 1 = cc in absurd (omega arith)
+both e f false y u h = let k : _≡_ {A = ℕ} 0 1 = cc in absurd (omega arith)
+
+three : (e f g : CardRefusal) (x y z : Bool) (u : Unit {0}) → andThen (unless e x) (andThen (unless f y) (unless g z)) ≡ Ok u → (x && (y && z)) ≡ true
+three e f g true y z u h = both f g y z u h
+three e f g false y z u h = let k : _≡_ {A = ℕ} 0 1 = cc in absurd (omega arith)
+
+pub accepted-telephone : (t : List ℕ) (u : Unit {0}) → telephoneAnswer t ≡ Ok u → isTelephone t ≡ true
+accepted-telephone t u h = three TelephoneLength (TelephoneSymbol (firstFailing isSymbol t)) TelephoneExtension (lengthWithin 18 t) (each isSymbol t) (extensionInside t) u h
+
+pub accepted-message : (t : List ℕ) (u : Unit {0}) → messageAnswer t ≡ Ok u → isMessage t ≡ true
+accepted-message t u h = both MessageLength (MessageOctet (firstFailing isPrinting t)) (lengthWithin 24 t) (each isPrinting t) u h
+
+-- a lawful telephone or message is not too long
+pub not-longer : (most : ℕ) (t : List ℕ) (rest : Bool) → (lengthWithin most t && rest) ≡ true → length t ≤ most
+not-longer most t rest h =
+    let p = and-parts (lengthWithin most t) rest h in
+    let q = and-parts (leb 1 (length t)) (leb (length t) most) (p .0) in
+    leb-true (length t) most (q .1)

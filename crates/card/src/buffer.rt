@@ -1,0 +1,17 @@
+//! Writing into a lent buffer.
+
+ghost use mathlib.Core.Path.{_≡_};
+ghost use Prim.Native.Nat.{ℕ, _+_, _≤_};
+ghost use lib.ListN.{length};
+ghost use Rattle.card.specs.Buffers.{overwritten};
+
+/// Writes `octets` from the place `at` on, and says where they end.
+pub(crate) fn put(out: &mut [u8], at: usize, octets: &[u8]) -> usize
+    requires { ⌜ at + length (now octets) ≤ length (now out) ⌝ }
+    ensures end { λ r. ⌜ r ≡ at + length (now (octets .entry)) ⌝ }
+    ensures text { λ _. ⌜ now (out .exit) ≡ overwritten at (now (octets .entry)) (now (out .entry)) ⌝ }
+{
+    let end = at + octets.len();
+    out[at..end].copy_from_slice(octets);
+    end
+}
