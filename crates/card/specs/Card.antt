@@ -66,8 +66,12 @@ identifierOf nine =
 abbrev pub blank : List ℕ → CardValue
 blank d = record { identifier = d; latitude = None; longitude = None; telephone = None; message = None }
 
+abbrev pub blankIn : Result (List ℕ) CardRefusal → Result CardValue CardRefusal
+blankIn (Ok d) = Ok (blank d)
+blankIn (Err e) = Err e
+
 abbrev pub opened : List ℕ → Result CardValue CardRefusal
-opened nine = elim (identifierOf nine) [ Ok d ↦ Ok (blank d) | Err e ↦ Err e ]
+opened nine = blankIn (identifierOf nine)
 
 -- What can be done to a card: to enter a field with any numbers or octets, and to clear the field of any number.
 pub data Act : Type 0 where

@@ -1,4 +1,5 @@
 pub mod Fields
 pub mod Refusals
 pub mod Card
+pub mod Life
 pub mod Buffers

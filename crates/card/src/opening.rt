@@ -8,6 +8,7 @@ ghost use Rattle.std.specs.declared.option.Option.the-variants.{Some, None};
 ghost use Rattle.coding.specs.Bits.{octetBits};
 ghost use Rattle.coding.specs.Crc.{crc8 as crc};
 ghost use Rattle.card.specs.Fields.{keepsFirstOctet};
+ghost use Rattle.card.specs.Life.{Lives};
 ghost use Rattle.card.specs.Card.{valueOf, valueIn, octetsIn, identifierOf, opened, blank};
 use crate::card::Card;
 use crate::identifier::Identifier;
@@ -84,9 +85,11 @@ impl Card {
         }
     }
 
-    /// Opens a card by nine octets, the check octet first. Every field is missing.
+    /// Opens a card by nine octets, the check octet first. Every field is missing; and whatever is done to the card from
+    /// then on, each field is the last entry accepted since it was last cleared.
     pub fn open(octets: &[u8]) -> Result<Card, CardRefusal>
-        ensures { λ r. ⌜ valueIn r ≡ opened (now (octets .entry)) ⌝ }
+        ensures card { λ r. ⌜ valueIn r ≡ opened (now (octets .entry)) ⌝ }
+        ensures lives { λ _. ⌜ Lives (now (octets .entry)) ⌝ }
     {
         Ok(Card::blank(Identifier::open(octets)?))
     }
