@@ -1,4 +1,5 @@
 pub mod Scans
 pub mod Accepted
 pub mod Overwriting
+pub mod Hexadecimal
 pub mod Lives

@@ -7,6 +7,7 @@ mod entering;
 mod fields;
 mod identifier;
 mod opening;
+mod print;
 mod refusal;
 mod texts;
 
@@ -16,4 +17,6 @@ pub use fields::Coordinate;
 pub use fields::Message;
 pub use fields::Telephone;
 pub use identifier::Identifier;
+pub use print::LONGEST_TEXT;
 pub use refusal::CardRefusal;
+pub use refusal::PrintRefusal;

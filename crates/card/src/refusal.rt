@@ -1,7 +1,7 @@
 //! What is refused of a card, and with which number.
 
 ghost use mathlib.Core.Path.{_≡_};
-ghost use Rattle.card.specs.Refusals.{cardNumber, cardHalf, cardPlace};
+ghost use Rattle.card.specs.Refusals.{cardNumber, cardHalf, cardPlace, printNumber, printHalf, printPlace};
 
 /// Why a card was not opened, or not changed.
 #[derive(Clone, Copy, PartialEq, Eq, Debug)]
@@ -66,5 +66,37 @@ impl CardRefusal {
             CardRefusal::MessageOctet { place } => place,
             _ => 0,
         }
+    }
+}
+
+/// Why a card was not printed.
+#[derive(Clone, Copy, PartialEq, Eq, Debug)]
+pub enum PrintRefusal {
+    /// The buffer has fewer than 112 octets.
+    ShortBuffer,
+}
+
+impl PrintRefusal {
+    /// The refusal's number.
+    pub fn number(self) -> u8
+        ensures { λ r. ⌜ r ≡ printNumber self ⌝ }
+    {
+        match self {
+            PrintRefusal::ShortBuffer => 28,
+        }
+    }
+
+    /// The half of a frame that is meant: 0, as a card has none.
+    pub fn half(self) -> u8
+        ensures { λ r. ⌜ r ≡ printHalf self ⌝ }
+    {
+        0
+    }
+
+    /// The place that is meant: 0, as there is none.
+    pub fn place(self) -> u8
+        ensures { λ r. ⌜ r ≡ printPlace self ⌝ }
+    {
+        0
     }
 }

@@ -16,4 +16,4 @@ pasted a xs ys zs e =
     ∙ ap (λ (z : List ℕ). take a xs ++ (z ++ drop (a + length zs) xs)) (take-length zs)
 
 pub returns : need.returns
-returns c = record { end = refl; text = pasted (c .args .at) (c .args .out .now) (c .copy-from-slice .last .self) (c .args .octets .now) (c .copy-from-slice .ensures .after) }
+returns c = record { ends = refl; text = pasted (c .args .at) (c .args .out .now) (c .copy-from-slice .last .self) (c .args .octets .now) (c .copy-from-slice .ensures .after) }

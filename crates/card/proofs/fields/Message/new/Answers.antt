@@ -13,7 +13,7 @@ pub ghost-result : need.ghost-result
 ghost-result c =
     let t = c .args .octets .now in
     let e : messageAnswer t ≡ Ok tt = sym (c .check-message .ensures) ∙ c .in-Continue-check-message .was tt in
-    let f : take (c .put-len .result) (c .put-len .last .out) ≡ t = front-of t _ (c .put-len .last .out) (c .put-len .result) (c .put-len .ensures .end) (c .put-len .ensures .text) in
+    let f : take (c .put-len .result) (c .put-len .last .out) ≡ t = front-of t _ (c .put-len .last .out) (c .put-len .result) (c .put-len .ensures .ends) (c .put-len .ensures .text) in
     let l = accepted-message t tt e in
     (omega (arith, not-longer 24 t (each isPrinting t) l), (ap isMessage f ∙ l, tt))
 
@@ -21,5 +21,5 @@ pub returns : need.returns
 returns c =
     let t = c .args .octets .now in
     let e : messageAnswer t ≡ Ok tt = sym (c .check-message .ensures) ∙ c .in-Continue-check-message .was tt in
-    let f : take (c .put-len .result) (c .put-len .last .out) ≡ t = front-of t _ (c .put-len .last .out) (c .put-len .result) (c .put-len .ensures .end) (c .put-len .ensures .text) in
+    let f : take (c .put-len .result) (c .put-len .last .out) ≡ t = front-of t _ (c .put-len .last .out) (c .put-len .result) (c .put-len .ensures .ends) (c .put-len .ensures .text) in
     ap Ok f ∙ sym (ap (whereAccepted t) e)
