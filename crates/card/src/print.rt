@@ -6,6 +6,7 @@ ghost use Prim.Native.Nat.{ℕ, _+_, _*_, _/_, _%_, _<_, _≤_};
 ghost use lib.Chars.{codes};
 ghost use lib.ListN.{length};
 ghost use Rattle.std.specs.Options.{mapped};
+ghost use Rattle.std.specs.Vec.{made};
 ghost use Rattle.std.specs.declared.option.Option.the-variants.{Some, None};
 ghost use Rattle.card.specs.Card.{valueOf, symbolsOf, octetsOf};
 ghost use Rattle.card.specs.Buffers.{Written};
@@ -216,6 +217,7 @@ impl Card {
     /// Writes the card's five lines to the front of `out` and answers their length. The octets after them stay.
     pub fn print(&self, out: &mut [u8]) -> Result<usize, PrintRefusal>
         ensures answer { λ r. ⌜ r ≡ printAnswer (valueOf (now (self .entry))) (now (out .entry)) ⌝ }
+        ensures bound { λ r. ⌜ made r (λ len. len ≤ 112) ⌝ }
         ensures text { λ _. ⌜ now (out .exit) ≡ printed (valueOf (now (self .entry))) (now (out .entry)) ⌝ }
     {
         if out.len() < LONGEST_TEXT {

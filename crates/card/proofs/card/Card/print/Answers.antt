@@ -40,5 +40,6 @@ returns c =
     let w = same-octets 0 (c .put-message .result) _ (cardText v) o (c .put-message .last .out) (regroup a b d e f) five in
     record {
       answer = answered v o (c .put-message .last .out) (c .put-message .result) (omega arith) w;
+      bound = omega arith;
       text = left v o (c .put-message .last .out) (c .put-message .result) (omega arith) w;
     }
