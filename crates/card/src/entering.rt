@@ -1,4 +1,4 @@
-//! Entering, clearing and reading the fields of a card.
+//! Entering and clearing the fields of a card.
 
 ghost use mathlib.Core.Path.{_≡_};
 ghost use mathlib.Core.Bool.{cond};
@@ -11,7 +11,6 @@ use crate::card::Card;
 use crate::fields::Coordinate;
 use crate::fields::Message;
 use crate::fields::Telephone;
-use crate::identifier::Identifier;
 use crate::refusal::CardRefusal;
 
 const MOST_LATITUDE: u32 = 90;
@@ -88,41 +87,6 @@ impl Card {
             _ => return Err(CardRefusal::NoSuchField),
         }
         Ok(())
-    }
-
-    /// The identifier.
-    pub fn identifier(&self) -> Identifier
-        ensures { λ r. ⌜ r ≡ now (self .entry) .identifier ⌝ }
-    {
-        self.identifier
-    }
-
-    /// The latitude, if it is not missing.
-    pub fn latitude(&self) -> Option<Coordinate>
-        ensures { λ r. ⌜ r ≡ now (self .entry) .latitude ⌝ }
-    {
-        self.latitude
-    }
-
-    /// The longitude, if it is not missing.
-    pub fn longitude(&self) -> Option<Coordinate>
-        ensures { λ r. ⌜ r ≡ now (self .entry) .longitude ⌝ }
-    {
-        self.longitude
-    }
-
-    /// The telephone, if it is not missing.
-    pub fn telephone(&self) -> Option<Telephone>
-        ensures { λ r. ⌜ r ≡ now (self .entry) .telephone ⌝ }
-    {
-        self.telephone
-    }
-
-    /// The message, if it is not missing.
-    pub fn message(&self) -> Option<Message>
-        ensures { λ r. ⌜ r ≡ now (self .entry) .message ⌝ }
-    {
-        self.message
     }
 }
 

@@ -45,13 +45,6 @@ impl Identifier {
         }
     }
 
-    /// The eight octets.
-    pub fn octets(&self) -> [u8; 8]
-        ensures { λ r. ⌜ r ≡ now (self .entry) .octets ⌝ }
-    {
-        self.octets
-    }
-
     /// The CRC-8 of the eight octets.
     pub fn check_octet(&self) -> u8
         ensures { λ r. ⌜ r ≡ crc (octetBits (now (self .entry) .octets)) ⌝ }

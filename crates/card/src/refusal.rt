@@ -3,6 +3,9 @@
 ghost use mathlib.Core.Path.{_≡_};
 ghost use Rattle.card.specs.Refusals.{cardNumber, cardHalf, cardPlace, printNumber, printHalf, printPlace};
 
+/// Stands where a refusal has no half, or no place.
+const NONE: u8 = 0;
+
 /// Why a card was not opened, or not changed.
 #[derive(Clone, Copy, PartialEq, Eq, Debug)]
 pub enum CardRefusal {
@@ -54,7 +57,7 @@ impl CardRefusal {
     pub fn half(self) -> u8
         ensures { λ r. ⌜ r ≡ cardHalf self ⌝ }
     {
-        0
+        NONE
     }
 
     /// The place of the bad symbol or octet, counted from 1; 0 where the refusal has no place.
@@ -64,7 +67,7 @@ impl CardRefusal {
         match self {
             CardRefusal::TelephoneSymbol { place } => place,
             CardRefusal::MessageOctet { place } => place,
-            _ => 0,
+            _ => NONE,
         }
     }
 }
@@ -90,13 +93,13 @@ impl PrintRefusal {
     pub fn half(self) -> u8
         ensures { λ r. ⌜ r ≡ printHalf self ⌝ }
     {
-        0
+        NONE
     }
 
     /// The place that is meant: 0, as there is none.
     pub fn place(self) -> u8
         ensures { λ r. ⌜ r ≡ printPlace self ⌝ }
     {
-        0
+        NONE
     }
 }

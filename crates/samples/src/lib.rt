@@ -1,0 +1,4 @@
+//! Tests in bulk, beside the proofs: what the crates do on examples.
+
+#[cfg(test)]
+mod cards;
