@@ -1,2 +1,5 @@
 pub mod Words
+pub mod Sums
+pub mod Distances
 pub mod Division
+pub mod Quotient
