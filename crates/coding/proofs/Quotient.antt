@@ -106,6 +106,10 @@ brought n r b h hb =
     top (suc zero) h = omega (arith, pow-suc 2 n, pow-pos n)
     top (suc (suc b)) h = absurd (omega arith)
 
+-- the digit of the quotient is a bit
+pub top-below : (n p : ℕ) → p < 2 ^ suc n → p / 2 ^ n < 2
+top-below n p h = ⊎-elim (λ l. omega (arith, div-eq-of-lt l)) (λ l. omega (arith, top-bit n p l h)) (cases-lt p (2 ^ n))
+
 -- the coefficient in its place
 placed : (n acc b : ℕ) → b < 2 → (acc * 2 + b) * 2 ^ n ≡ bitXor (acc * 2 ^ n * 2) (b * 2 ^ n)
 placed n acc b h =
@@ -133,7 +137,7 @@ module _ (n g r : ℕ) (lg : 2 ^ n ≤ g) (hg : g < 2 ^ suc n) where
   more acc s m b hb d =
       let p : ℕ = bitXor (s * 2) (b * 2 ^ n) in
       let hp : p < 2 ^ suc n = brought n s b (d .small) hb in
-      let t : p / 2 ^ n < 2 = top p hp in
+      let t : p / 2 ^ n < 2 = top-below n p hp in
       let e : 2 ^ suc m ≡ 2 ^ m * 2 = pow-suc 2 m in
       record {
         small = reduced-small n g p lg hg hp;
@@ -149,10 +153,6 @@ module _ (n g r : ℕ) (lg : 2 ^ n ≤ g) (hg : g < 2 ^ suc n) where
             ∙ sym (times-more m g (d .quotient) (p / 2 ^ n) t);
       }
     where
-      top : (p : ℕ) → p < 2 ^ suc n → p / 2 ^ n < 2
-      top p h =
-          ⊎-elim (λ l. omega (arith, div-eq-of-lt l)) (λ l. omega (arith, top-bit n p l h)) (cases-lt p (2 ^ n))
-
       sorted : (a c b s t : ℕ) → bitXor (bitXor a (bitXor c b)) (bitXor (bitXor s b) t) ≡ bitXor t (bitXor (bitXor a c) s)
       sorted a c b s t = simp sums
 

@@ -1,0 +1,7 @@
+pub mod Tables
+pub mod Elements
+pub mod PowerSums
+pub mod Roots
+pub mod Differences
+pub mod Locators
+pub mod Corrections
