@@ -41,7 +41,7 @@ among-below p n (x ∷ xs) h m = ⊎-elim (λ e. let k : x < n = h .0 in omega a
 
 module _ (f : ℕ → Bool) where
   flipped-differences : (us vs : List ℕ) → areBits us ≡ true → areBits vs ≡ true → length us ≡ length vs
-    → Each (λ p. f p ≡ true) (differences us vs) → ((p : ℕ) → p < length us → f p ≡ true → Among p (differences us vs)) → flipped f us ≡ vs
+      → Each (λ p. f p ≡ true) (differences us vs) → ((p : ℕ) → p < length us → f p ≡ true → Among p (differences us vs)) → flipped f us ≡ vs
   unfolding flipped differences
   flipped-differences [] [] hu hv e h k = refl
   flipped-differences [] (v ∷ vs) hu hv e h k = absurd (omega arith)
@@ -50,26 +50,28 @@ module _ (f : ℕ → Bool) where
       let pu = bits-parts u us hu in
       let pv = bits-parts v vs hv in
       by (eqb u v) refl (pu .0) (pv .0) h (k (length us) (omega arith)) (λ p l. k p (omega arith))
-        (λ h′ k′. flipped-differences us vs (pu .1) (pv .1) (omega arith) h′ k′)
+      (λ h′ k′. flipped-differences us vs (pu .1) (pv .1) (omega arith) h′ k′)
     where
       n : ℕ
       n = length us
+
       ds : List ℕ
       ds = differences us vs
+
       by : (t : Bool) → eqb u v ≡ t → u < 2 → v < 2 → Each (λ p. f p ≡ true) (cond t ds (n ∷ ds)) → (f n ≡ true → Among n (cond t ds (n ∷ ds)))
-        → ((p : ℕ) → p < n → f p ≡ true → Among p (cond t ds (n ∷ ds)))
-        → (Each (λ p. f p ≡ true) ds → ((p : ℕ) → p < n → f p ≡ true → Among p ds) → flipped f us ≡ vs)
-        → cond (f n) (1 - u) u ∷ flipped f us ≡ v ∷ vs
+          → ((p : ℕ) → p < n → f p ≡ true → Among p (cond t ds (n ∷ ds)))
+          → (Each (λ p. f p ≡ true) ds → ((p : ℕ) → p < n → f p ≡ true → Among p ds) → flipped f us ≡ vs)
+          → cond (f n) (1 - u) u ∷ flipped f us ≡ v ∷ vs
       by true q hu hv h here below rest =
           let off : f n ≡ false =
-              ⊎-elim (λ t. let l : n < n = among-below n n ds (differences-below us vs) (here t) in absurd (omega arith)) (λ o. o) (cases-bool (f n))
+          ⊎-elim (λ t. let l : n < n = among-below n n ds (differences-below us vs) (here t) in absurd (omega arith)) (λ o. o) (cases-bool (f n))
           in
           ap₂ (λ (x : ℕ) (xs : List ℕ). x ∷ xs) (cond-false (f n) (1 - u) u off ∙ eqb-true u v q) (rest h below)
       by false q hu hv h here below rest =
           let d : u ≡ v → ⊥ = eqb-false u v q in
           let o : 1 - u ≡ v = omega arith in
           ap₂ (λ (x : ℕ) (xs : List ℕ). x ∷ xs) (cond-true (f n) (1 - u) u (h .0) ∙ o)
-            (rest (h .1) (λ p l t. ⊎-elim (λ z. absurd (omega arith)) (λ m. m) (below p l t)))
+          (rest (h .1) (λ p l t. ⊎-elim (λ z. absurd (omega arith)) (λ m. m) (below p l t)))
 
 -- ---- the syndromes are the power sums of the errors
 recurrence-same : (s t : ℕ → ℕ) (n : ℕ) (ls : List ℕ) → ((m : ℕ) → n ≤ m → m < n + length ls → s m ≡ t m) → recurrence s n ls ≡ recurrence t n ls
@@ -79,9 +81,6 @@ recurrence-same s t n (l ∷ ls) h =
     ap₂ bitXor (ap (mul l) (h (n + length ls) (omega arith) (omega arith))) (recurrence-same s t n ls (λ m a b. h m a (omega arith)))
 
 module _ (r w : List ℕ) (c : Received r w) where
-  errors : List ℕ
-  errors = differences r w
-
   -- received word and codeword are as long
   as-long : length r ≡ length w
   as-long = c .long ∙ sym (word-length w (c .code))
@@ -97,7 +96,7 @@ module _ (r w : List ℕ) (c : Received r w) where
       ∙ placeSum-powerSum (suc i) (differences r w)
 
   syndrome-recurrence : (i : ℕ) (ls : List ℕ) → i + length ls < 13
-    → recurrence (syndrome r) (suc i) ls ≡ recurrence (powerSum (λ x. 1) (map exp (differences r w))) (suc i) ls
+      → recurrence (syndrome r) (suc i) ls ≡ recurrence (powerSum (λ x. 1) (map exp (differences r w))) (suc i) ls
   syndrome-recurrence i ls h =
       recurrence-same (syndrome r) (powerSum (λ x. 1) (map exp (differences r w))) (suc i) ls (λ m a b. at m a b)
     where
@@ -119,30 +118,30 @@ module _ (r w : List ℕ) (c : Received r w) where
     all-roots : Each (λ x. value x (1 ∷ ls) ≡ 0) (map exp (differences r w))
     all-roots =
         locates (map exp (differences r w)) (distinct-exp (differences r w) below127 (differences-distinct r w)) (nonzero-exp (differences r w)) (1 ∷ ls)
-          (λ i h.
-            let k : i < distance r w = omega (arith, length-map (differences r w) exp, count) in
-            sym (syndrome-recurrence i (1 ∷ ls) (omega (arith, key .degree, c .near))) ∙ key .equations i k)
+        (λ i h.
+        let k : i < distance r w = omega (arith, length-map (differences r w) exp, count) in
+        sym (syndrome-recurrence i (1 ∷ ls) (omega (arith, key .degree, c .near))) ∙ key .equations i k)
 
     -- and there is no other: the errors are already as many as the degree
     only-roots : (p : ℕ) → p < 127 → value (exp p) (1 ∷ ls) ≡ 0 → Among p (differences r w)
     only-roots p h e =
         ⊎-elim (λ m. m)
-          (λ n. absurd
-            (let k : length (exp p ∷ map exp (differences r w)) ≤ length ls =
-                few-roots (exp p ∷ map exp (differences r w)) (distinct-exp (p ∷ differences r w) (h, below127) (n, differences-distinct r w))
-                  (exp-small p, each-map Nonzero (λ x. x < 128) (map exp (differences r w)) (λ x u. u .small) (nonzero-exp (differences r w)))
-                  ls (e, all-roots)
-              in
-              omega (arith, key .degree, length-map (differences r w) exp, count)))
-          (among-or-not p (differences r w))
+        (λ n. absurd
+        (let k : length (exp p ∷ map exp (differences r w)) ≤ length ls =
+        few-roots (exp p ∷ map exp (differences r w)) (distinct-exp (p ∷ differences r w) (h, below127) (n, differences-distinct r w))
+        (exp-small p, each-map Nonzero (λ x. x < 128) (map exp (differences r w)) (λ x u. u .small) (nonzero-exp (differences r w)))
+        ls (e, all-roots)
+        in
+        omega (arith, key .degree, length-map (differences r w) exp, count)))
+        (among-or-not p (differences r w))
 
     pub corrects : flipped (isRoot ls) r ≡ w
     unfolding isRoot
     corrects =
         flipped-differences (isRoot ls) r w (c .bit) (word-bits w (c .code)) as-long
-          (each-map (λ p. value (exp p) (1 ∷ ls) ≡ 0) (λ p. isRoot ls p ≡ true) (differences r w) (λ p e. eq-eqb (value (exp p) (1 ∷ ls)) 0 e)
-            (un-map (λ x. value x (1 ∷ ls) ≡ 0) (differences r w) all-roots))
-          (λ p l t. only-roots p (omega (arith, c .long)) (eqb-true (value (exp p) (1 ∷ ls)) 0 t))
+        (each-map (λ p. value (exp p) (1 ∷ ls) ≡ 0) (λ p. isRoot ls p ≡ true) (differences r w) (λ p e. eq-eqb (value (exp p) (1 ∷ ls)) 0 e)
+        (un-map (λ x. value x (1 ∷ ls) ≡ 0) (differences r w) all-roots))
+        (λ p l t. only-roots p (omega (arith, c .long)) (eqb-true (value (exp p) (1 ∷ ls)) 0 t))
       where
         un-map : (P : ℕ → Type 0) (ps : List ℕ) → Each P (map exp ps) → Each (λ p. P (exp p)) ps
         un-map P [] h = tt

@@ -34,7 +34,7 @@ distance-differences (x ∷ xs) [] e = absurd (omega arith)
 distance-differences (x ∷ xs) (y ∷ ys) e = by (eqb x y) (distance-differences xs ys (omega arith))
   where
     by : (t : Bool) → distance xs ys ≡ length (differences xs ys)
-      → cond t 0 1 + distance xs ys ≡ length (cond t (differences xs ys) (length xs ∷ differences xs ys))
+        → cond t 0 1 + distance xs ys ≡ length (cond t (differences xs ys) (length xs ∷ differences xs ys))
     by true h = omega arith
     by false h = omega arith
 
@@ -54,7 +54,7 @@ bit-sum (suc zero) (suc (suc v)) x hu hv h = absurd (omega arith)
 bit-sum zero (suc (suc v)) x hu hv h = absurd (omega arith)
 
 pub value-differences : (a : ℕ) (us vs : List ℕ) → areBits us ≡ true → areBits vs ≡ true → length us ≡ length vs
-  → bitXor (value a us) (value a vs) ≡ placeSum a (differences us vs)
+    → bitXor (value a us) (value a vs) ≡ placeSum a (differences us vs)
 unfolding value differences placeSum
 value-differences a [] [] hu hv e = refl
 value-differences a [] (v ∷ vs) hu hv e = absurd (omega arith)
@@ -94,7 +94,7 @@ differences-below [] vs = tt
 differences-below (u ∷ us) [] = tt
 differences-below (u ∷ us) (v ∷ vs) =
     each-cond (λ p. p < suc (length us)) (eqb u v) (length us) (differences us vs) (omega arith)
-      (each-map (λ p. p < length us) (λ p. p < suc (length us)) (differences us vs) (λ p h. omega arith) (differences-below us vs))
+    (each-map (λ p. p < length us) (λ p. p < suc (length us)) (differences us vs) (λ p h. omega arith) (differences-below us vs))
 
 pub differences-distinct : (us vs : List ℕ) → Distinct (differences us vs)
 unfolding differences
@@ -102,8 +102,8 @@ differences-distinct [] vs = tt
 differences-distinct (u ∷ us) [] = tt
 differences-distinct (u ∷ us) (v ∷ vs) =
     distinct-cond (eqb u v) (length us) (differences us vs)
-      (each-map (λ p. p < length us) (λ p. length us ≡ p → ⊥) (differences us vs) (λ p h e. omega arith) (differences-below us vs))
-      (differences-distinct us vs)
+    (each-map (λ p. p < length us) (λ p. length us ≡ p → ⊥) (differences us vs) (λ p h e. omega arith) (differences-below us vs))
+    (differences-distinct us vs)
 
 -- computed: the powers of c below 127 have their exponents as logarithms
 exponent-test : ℕ → Bool
@@ -126,10 +126,11 @@ each-exp P (p ∷ ps) h = (h .0, each-exp P ps (h .1))
 
 pub distinct-exp : (ps : List ℕ) → Each (λ p. p < 127) ps → Distinct ps → Distinct (map exp ps)
 distinct-exp [] hs h = tt
-distinct-exp (p ∷ ps) hs h =
-    (each-exp (λ y. exp p ≡ y → ⊥) ps
+distinct-exp (p ∷ ps) hs h = (
+  each-exp (λ y. exp p ≡ y → ⊥) ps
       (each-with (λ q. q < 127) (λ q. p ≡ q → ⊥) (λ q. exp p ≡ exp q → ⊥) ps (λ q l n e. n (exp-injective p q (hs .0) l e)) (hs .1) (h .0)),
-      distinct-exp ps (hs .1) (h .1))
+  distinct-exp ps (hs .1) (h .1),
+)
 
 pub nonzero-exp : (ps : List ℕ) → Each Nonzero (map exp ps)
 nonzero-exp [] = tt
@@ -157,19 +158,19 @@ far u v cu cv near =
     let l : length u ≡ length v = word-length u cu ∙ sym (word-length v cv) in
     let n : distance u v ≡ length (differences u v) = distance-differences u v l in
     let below : Each (λ p. p < 127) (differences u v) =
-        each-map (λ p. p < length u) (λ p. p < 127) (differences u v) (λ p h. omega (arith, word-length u cu)) (differences-below u v)
+    each-map (λ p. p < length u) (λ p. p < 127) (differences u v) (λ p h. omega (arith, word-length u cu)) (differences-below u v)
     in
     let sums : (i : ℕ) → i < length (map exp (differences u v)) → powerSum (λ x. 1) (map exp (differences u v)) (suc i) ≡ 0 =
-        λ i h.
-          let k : i < 12 = omega (arith, length-map (differences u v) exp) in
-          sym (placeSum-powerSum (suc i) (differences u v))
-          ∙ sym (value-differences (exp (suc i)) u v (word-bits u cu) (word-bits v cv) l)
-          ∙ ap₂ bitXor (roots u cu i k) (roots v cv i k)
+    λ i h.
+    let k : i < 12 = omega (arith, length-map (differences u v) exp) in
+    sym (placeSum-powerSum (suc i) (differences u v))
+    ∙ sym (value-differences (exp (suc i)) u v (word-bits u cu) (word-bits v cv) l)
+    ∙ ap₂ bitXor (roots u cu i k) (roots v cv i k)
     in
     distance-zero u v
-      (n ∙ none-left (differences u v)
-        (vandermonde (map exp (differences u v)) (distinct-exp (differences u v) below (differences-distinct u v)) (nonzero-exp (differences u v))
-          (λ x. 1) (λ x. lit< tt) sums))
+    (n ∙ none-left (differences u v)
+    (vandermonde (map exp (differences u v)) (distinct-exp (differences u v) below (differences-distinct u v)) (nonzero-exp (differences u v))
+    (λ x. 1) (λ x. lit< tt) sums))
 
 pub code-laws : CodeLaws
 code-laws = record { remains = parity-remains; root = root-of-g4; roots = roots; far = far }

@@ -34,8 +34,8 @@ pub byC-xor : (x y : ℕ) → byC (bitXor x y) ≡ bitXor (byC x) (byC y)
 unfolding byC
 byC-xor x y =
     ap₂ bitXor (ap (λ (z : ℕ). z % 128) (double-xor x y) ∙ xor-mod (x * 2) (y * 2) 7)
-      (ap (λ (z : ℕ). z * 65) (ap (λ (z : ℕ). z % 2) (xor-shr x y 6) ∙ xor-mod (x / 64) (y / 64) 1)
-        ∙ bit-xor (x / 64 % 2) (y / 64 % 2) 65 (omega arith) (omega arith))
+    (ap (λ (z : ℕ). z * 65) (ap (λ (z : ℕ). z % 2) (xor-shr x y 6) ∙ xor-mod (x / 64) (y / 64) 1)
+    ∙ bit-xor (x / 64 % 2) (y / 64 % 2) 65 (omega arith) (omega arith))
     ∙ xor-swap (x * 2 % 128) (y * 2 % 128) (x / 64 % 2 * 65) (y / 64 % 2 * 65)
 
 pub byC-zero : byC 0 ≡ 0
@@ -49,8 +49,8 @@ byC-small x = xor-lt 7 (x * 2 % 128) (x / 64 % 2 * 65) (omega arith) (bit-small 
 byC-bit : (b x : ℕ) → b < 2 → byC (b * x) ≡ b * byC x
 byC-bit b x h =
     bit-cases (λ b. byC (b * x) ≡ b * byC x)
-      (ap byC (none-of x) ∙ byC-zero ∙ sym (none-of (byC x)))
-      (ap byC (one-of x) ∙ sym (one-of (byC x))) b h
+    (ap byC (none-of x) ∙ byC-zero ∙ sym (none-of (byC x)))
+    (ap byC (one-of x) ∙ sym (one-of (byC x))) b h
 
 pub byPower-xor : (k x y : ℕ) → byPower k (bitXor x y) ≡ bitXor (byPower k x) (byPower k y)
 unfolding byPower
@@ -137,7 +137,7 @@ unfolding log-test exp
 logarithm zero p h = absurd (omega arith)
 logarithm (suc x) p h =
     let t = and-parts (eqb (byPower (getD logarithms (suc x) 0) 1) (suc x)) (ltb (getD logarithms (suc x) 0) 127)
-        (at-each log-test 128 log-all (suc x) h)
+    (at-each log-test 128 log-all (suc x) h)
     in
     (sym (eqb-true (byPower (getD logarithms (suc x) 0) 1) (suc x) (t .0)), ltb-true (getD logarithms (suc x) 0) 127 (t .1))
 
@@ -184,16 +184,16 @@ exp-mod k = mod-eq-of-lt (exp-small k)
 pub mul-small : (x y : ℕ) → mul x y < 128
 mul-small x y =
     ⊎-elim (λ e. subst (λ (n : ℕ). n < 128) (sym (mul-zero′ x y e)) (lit< tt))
-      (λ (p : (k : ℕ) × (x % 128 ≡ exp k)). subst (λ (n : ℕ). n < 128) (sym (mul-exp′ x y (p .0) (p .1))) (byPower-small (p .0) (y % 128) (mod-lt y (lit< tt))))
-      (cases x)
+    (λ (p : (k : ℕ) × (x % 128 ≡ exp k)). subst (λ (n : ℕ). n < 128) (sym (mul-exp′ x y (p .0) (p .1))) (byPower-small (p .0) (y % 128) (mod-lt y (lit< tt))))
+    (cases x)
 
 pub dist : (x y z : ℕ) → mul x (bitXor y z) ≡ bitXor (mul x y) (mul x z)
 dist x y z =
     ⊎-elim (λ e. mul-zero′ x (bitXor y z) e ∙ sym (ap₂ bitXor (mul-zero′ x y e) (mul-zero′ x z e)))
-      (λ (p : (k : ℕ) × (x % 128 ≡ exp k)).
-        mul-exp′ x (bitXor y z) (p .0) (p .1) ∙ ap (byPower (p .0)) (xor-mod y z 7) ∙ byPower-xor (p .0) (y % 128) (z % 128)
-        ∙ sym (ap₂ bitXor (mul-exp′ x y (p .0) (p .1)) (mul-exp′ x z (p .0) (p .1))))
-      (cases x)
+    (λ (p : (k : ℕ) × (x % 128 ≡ exp k)).
+    mul-exp′ x (bitXor y z) (p .0) (p .1) ∙ ap (byPower (p .0)) (xor-mod y z 7) ∙ byPower-xor (p .0) (y % 128) (z % 128)
+    ∙ sym (ap₂ bitXor (mul-exp′ x y (p .0) (p .1)) (mul-exp′ x z (p .0) (p .1))))
+    (cases x)
 
 pub mul-zero-r′ : (x y : ℕ) → y % 128 ≡ 0 → mul x y ≡ 0
 mul-zero-r′ x y e =
@@ -207,12 +207,12 @@ mul-exps x y i j e f = mul-exp′ x y i e ∙ ap (byPower i) f ∙ byPower-add i
 pub comm : (x y : ℕ) → mul x y ≡ mul y x
 comm x y =
     ⊎-elim (λ e. mul-zero′ x y e ∙ sym (mul-zero-r′ y x e))
-      (λ (p : (k : ℕ) × (x % 128 ≡ exp k)).
-        ⊎-elim (λ e. mul-zero-r′ x y e ∙ sym (mul-zero′ y x e))
-          (λ (q : (k : ℕ) × (y % 128 ≡ exp k)).
-            mul-exps x y (p .0) (q .0) (p .1) (q .1) ∙ ap exp (add-comm (p .0) (q .0)) ∙ sym (mul-exps y x (q .0) (p .0) (q .1) (p .1)))
-          (cases y))
-      (cases x)
+    (λ (p : (k : ℕ) × (x % 128 ≡ exp k)).
+    ⊎-elim (λ e. mul-zero-r′ x y e ∙ sym (mul-zero′ y x e))
+    (λ (q : (k : ℕ) × (y % 128 ≡ exp k)).
+    mul-exps x y (p .0) (q .0) (p .1) (q .1) ∙ ap exp (add-comm (p .0) (q .0)) ∙ sym (mul-exps y x (q .0) (p .0) (q .1) (p .1)))
+    (cases y))
+    (cases x)
 
 pub small-mod : (x : ℕ) → x < 128 → x % 128 ≡ x
 small-mod x h = mod-eq-of-lt h
@@ -220,15 +220,15 @@ small-mod x h = mod-eq-of-lt h
 pub assoc : (x y z : ℕ) → mul (mul x y) z ≡ mul x (mul y z)
 assoc x y z =
     ⊎-elim (λ e. mul-zero′ (mul x y) z (ap (λ (n : ℕ). n % 128) (mul-zero′ x y e)) ∙ sym (mul-zero′ x (mul y z) e))
-      (λ (p : (k : ℕ) × (x % 128 ≡ exp k)).
-        ⊎-elim
-          (λ e. mul-zero′ (mul x y) z (ap (λ (n : ℕ). n % 128) (mul-zero-r′ x y e)) ∙ sym (mul-zero-r′ x (mul y z) (ap (λ (n : ℕ). n % 128) (mul-zero′ y z e))))
-          (λ (q : (k : ℕ) × (y % 128 ≡ exp k)).
-            mul-exp′ (mul x y) z (p .0 + q .0) (small-mod (mul x y) (mul-small x y) ∙ mul-exps x y (p .0) (q .0) (p .1) (q .1))
-            ∙ sym (byPower-add (p .0) (q .0) (z % 128))
-            ∙ sym (mul-exp′ x (mul y z) (p .0) (p .1) ∙ ap (byPower (p .0)) (small-mod (mul y z) (mul-small y z) ∙ mul-exp′ y z (q .0) (q .1))))
-          (cases y))
-      (cases x)
+    (λ (p : (k : ℕ) × (x % 128 ≡ exp k)).
+    ⊎-elim
+    (λ e. mul-zero′ (mul x y) z (ap (λ (n : ℕ). n % 128) (mul-zero-r′ x y e)) ∙ sym (mul-zero-r′ x (mul y z) (ap (λ (n : ℕ). n % 128) (mul-zero′ y z e))))
+    (λ (q : (k : ℕ) × (y % 128 ≡ exp k)).
+    mul-exp′ (mul x y) z (p .0 + q .0) (small-mod (mul x y) (mul-small x y) ∙ mul-exps x y (p .0) (q .0) (p .1) (q .1))
+    ∙ sym (byPower-add (p .0) (q .0) (z % 128))
+    ∙ sym (mul-exp′ x (mul y z) (p .0) (p .1) ∙ ap (byPower (p .0)) (small-mod (mul y z) (mul-small y z) ∙ mul-exp′ y z (q .0) (q .1))))
+    (cases y))
+    (cases x)
 
 pub one : (x : ℕ) → mul 1 x ≡ x % 128
 unfolding mul
@@ -237,13 +237,13 @@ one x = shiftAdd-one (x % 128) (mod-lt x (lit< tt))
 pub domain : (x y : ℕ) → x < 128 → y < 128 → mul x y ≡ 0 → (x ≡ 0) ⊎ (y ≡ 0)
 domain x y hx hy e =
     ⊎-elim (λ d. inl d)
-      (λ (p : (k : ℕ) × (x ≡ exp k)).
-        ⊎-elim (λ d. inr d)
-          (λ (q : (k : ℕ) × (y ≡ exp k)).
-            absurd (let z : exp (p .0 + q .0) ≡ 0 = sym (mul-exps x y (p .0) (q .0) (small-mod x hx ∙ p .1) (small-mod y hy ∙ q .1)) ∙ e in
-              omega (arith, z, exp-pos (p .0 + q .0))))
-          (logged y hy))
-      (logged x hx)
+    (λ (p : (k : ℕ) × (x ≡ exp k)).
+    ⊎-elim (λ d. inr d)
+    (λ (q : (k : ℕ) × (y ≡ exp k)).
+    absurd (let z : exp (p .0 + q .0) ≡ 0 = sym (mul-exps x y (p .0) (q .0) (small-mod x hx ∙ p .1) (small-mod y hy ∙ q .1)) ∙ e in
+    omega (arith, z, exp-pos (p .0 + q .0))))
+    (logged y hy))
+    (logged x hx)
 
 -- ---- what follows from the laws
 pub mul-one : (x : ℕ) → x < 128 → mul x 1 ≡ x
@@ -335,8 +335,13 @@ inverts x h =
 pub field-laws : FieldLaws
 field-laws =
     record {
-      commutes = comm; associates = assoc; distributes = dist; one = one; closed = mul-small; inverts = inverts;
-      primitive = primitive
+      commutes = comm;
+      associates = assoc;
+      distributes = dist;
+      one = one;
+      closed = mul-small;
+      inverts = inverts;
+      primitive = primitive;
     }
   where
     primitive : (x : ℕ) → x < 128 → (x ≡ 0) ⊎ ((k : ℕ) × (k < 127) × (x ≡ exp k))

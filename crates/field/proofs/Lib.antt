@@ -1,5 +1,6 @@
 pub mod Tables
 pub mod Elements
+pub mod Products
 pub mod PowerSums
 pub mod Roots
 pub mod Differences

@@ -72,8 +72,8 @@ head-zero : (k : ℕ → ℕ) (x : ℕ) (xs : List ℕ) → k x < 128 → Nonzer
 unfolding powerSum power
 head-zero k x xs kx u e h =
     cancel (k x) x kx (u .small) (λ z. omega (arith, z, u .pos))
-      (ap (mul (k x)) (sym (mul-one x (u .small))) ∙ sym (xor-zero-r (mul (k x) (mul x 1)))
-        ∙ sym (ap (bitXor (mul (k x) (mul x 1))) (powerSum-zero k xs 1 h)) ∙ e)
+    (ap (mul (k x)) (sym (mul-one x (u .small))) ∙ sym (xor-zero-r (mul (k x) (mul x 1)))
+    ∙ sym (ap (bitXor (mul (k x) (mul x 1))) (powerSum-zero k xs 1 h)) ∙ e)
 
 -- the equations of the others, and back
 less-zero : (k : ℕ → ℕ) (x y : ℕ) → k y < 128 → x < 128 → y < 128 → (x ≡ y → ⊥) → less k x y ≡ 0 → k y ≡ 0
@@ -88,18 +88,18 @@ eqs-rest : (k : ℕ → ℕ) (x : ℕ) (xs : List ℕ) (i : ℕ) → powerSum k 
 eqs-rest k x xs i e f = sym (gone k x xs i) ∙ ap₂ bitXor e (ap (mul x) f ∙ zero-r x)
 
 pub vandermonde : (xs : List ℕ) → Distinct xs → Each Nonzero xs → (k : ℕ → ℕ) → ((x : ℕ) → k x < 128)
-  → ((i : ℕ) → i < length xs → powerSum k xs (suc i) ≡ 0) → Each (λ x. k x ≡ 0) xs
+    → ((i : ℕ) → i < length xs → powerSum k xs (suc i) ≡ 0) → Each (λ x. k x ≡ 0) xs
 vandermonde [] distinct nonzero k ks eqs = tt
 vandermonde (x ∷ xs) distinct nonzero k ks eqs =
     let scaled : Each (λ y. less k x y ≡ 0) xs =
-        vandermonde xs (distinct .1) (nonzero .1) (less k x) (less-small k x)
-          (λ i h. eqs-rest k x xs (suc i) (eqs (suc i) (omega arith)) (eqs i (omega arith)))
+    vandermonde xs (distinct .1) (nonzero .1) (less k x) (less-small k x)
+    (λ i h. eqs-rest k x xs (suc i) (eqs (suc i) (omega arith)) (eqs i (omega arith)))
     in
     let free : Each (λ y. less k x y ≡ 0 → k y ≡ 0) xs =
-        each-with (λ y. x ≡ y → ⊥) Nonzero (λ y. less k x y ≡ 0 → k y ≡ 0) xs
-          (λ y n u. less-zero k x y (ks y) (nonzero .0 .small) (u .small) n) (distinct .0) (nonzero .1)
+    each-with (λ y. x ≡ y → ⊥) Nonzero (λ y. less k x y ≡ 0 → k y ≡ 0) xs
+    (λ y n u. less-zero k x y (ks y) (nonzero .0 .small) (u .small) n) (distinct .0) (nonzero .1)
     in
     let rest : Each (λ y. k y ≡ 0) xs =
-        each-with (λ y. less k x y ≡ 0 → k y ≡ 0) (λ y. less k x y ≡ 0) (λ y. k y ≡ 0) xs (λ y f e. f e) free scaled
+    each-with (λ y. less k x y ≡ 0 → k y ≡ 0) (λ y. less k x y ≡ 0) (λ y. k y ≡ 0) xs (λ y f e. f e) free scaled
     in
     (head-zero k x xs (ks x) (nonzero .0) (eqs 0 (omega arith)) rest, rest)

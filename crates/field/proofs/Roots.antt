@@ -30,8 +30,8 @@ unfolding evaluate
 evaluate-xor zero a r s = refl
 evaluate-xor (suc n) a r s =
     ap₂ bitXor (xor-mod r s 1)
-      (ap (λ (z : ℕ). mul a (evaluate n a z)) (xor-shr r s 1) ∙ ap (mul a) (evaluate-xor n a (r / 2) (s / 2))
-        ∙ dist a (evaluate n a (r / 2)) (evaluate n a (s / 2)))
+    (ap (λ (z : ℕ). mul a (evaluate n a z)) (xor-shr r s 1) ∙ ap (mul a) (evaluate-xor n a (r / 2) (s / 2))
+    ∙ dist a (evaluate n a (r / 2)) (evaluate n a (s / 2)))
     ∙ xor-swap (r % 2) (s % 2) (mul a (evaluate n a (r / 2))) (mul a (evaluate n a (s / 2)))
 
 evaluate-double : (n a r : ℕ) → evaluate (suc n) a (r * 2) ≡ mul a (evaluate n a r)
@@ -65,8 +65,8 @@ evaluate-bit n a b r h =
     let z : 0 * r ≡ 0 = omega arith in
     let o : 1 * r ≡ r = omega arith in
     bit-cases (λ b. evaluate n a (b * r) ≡ mul b (evaluate n a r))
-      (ap (evaluate n a) z ∙ evaluate-zero n a ∙ sym (zero-l (evaluate n a r)))
-      (ap (evaluate n a) o ∙ sym (one-mul (evaluate n a r) (evaluate-small n a r))) b h
+    (ap (evaluate n a) z ∙ evaluate-zero n a ∙ sym (zero-l (evaluate n a r)))
+    (ap (evaluate n a) o ∙ sym (one-mul (evaluate n a r) (evaluate-small n a r))) b h
 
 evaluate-top : (n a : ℕ) → evaluate (suc n) a (2 ^ n) ≡ power a n
 unfolding evaluate power
@@ -101,7 +101,7 @@ value-bits a (suc n) r h =
 -- ---- the remainder by g has the dividend's value at a root of g
 module _ (n g a : ℕ) (lg : 2 ^ n ≤ g) (hg : g < 2 ^ suc n) (root : evaluate (suc n) a g ≡ 0) where
   evaluate-step : (r b : ℕ) → r < 2 ^ n → b < 2
-    → evaluate n a (reduced n g (bitXor (r * 2) (b * 2 ^ n))) ≡ bitXor (mul a (evaluate n a r)) (mul b (power a n))
+      → evaluate n a (reduced n g (bitXor (r * 2) (b * 2 ^ n))) ≡ bitXor (mul a (evaluate n a r)) (mul b (power a n))
   evaluate-step r b h hb =
       let p : ℕ = bitXor (r * 2) (b * 2 ^ n) in
       let hp : p < 2 ^ suc n = brought n r b h hb in
@@ -118,7 +118,7 @@ module _ (n g a : ℕ) (lg : 2 ^ n ≤ g) (hg : g < 2 ^ suc n) (root : evaluate 
   step-sorted p v b q w = simp ring
 
   pub evaluate-remainder : (r : ℕ) (d : List ℕ) → areBits d ≡ true → r < 2 ^ n
-    → evaluate n a (remainder n g r d) ≡ bitXor (mul (power a (length d)) (evaluate n a r)) (mul (power a n) (value a d))
+      → evaluate n a (remainder n g r d) ≡ bitXor (mul (power a (length d)) (evaluate n a r)) (mul (power a n) (value a d))
   unfolding remainder value power
   evaluate-remainder r [] hs h =
       sym (ap₂ bitXor (one-mul (evaluate n a r) (evaluate-small n a r)) (zero-r (power a n)) ∙ xor-zero-r (evaluate n a r))
@@ -135,8 +135,8 @@ module _ (n g a : ℕ) (lg : 2 ^ n ≤ g) (hg : g < 2 ^ suc n) (root : evaluate 
       let p : ℕ = remainder n g 0 d in
       value-append a d (bits n p)
       ∙ ap₂ bitXor (ap (λ (m : ℕ). mul (power a m) (value a d)) (length-bits n p))
-        (value-bits a n p ha ∙ evaluate-remainder 0 d hs (pow-pos n)
-          ∙ ap (λ (z : ℕ). bitXor z (mul (power a n) (value a d))) (ap (mul (power a (length d))) (evaluate-zero n a) ∙ zero-r (power a (length d))))
+      (value-bits a n p ha ∙ evaluate-remainder 0 d hs (pow-pos n)
+      ∙ ap (λ (z : ℕ). bitXor z (mul (power a n) (value a d))) (ap (mul (power a (length d))) (evaluate-zero n a) ∙ zero-r (power a (length d))))
       ∙ xor-self (mul (power a n) (value a d))
 
 -- ---- the code

@@ -12,22 +12,22 @@ use Rattle.field.specs.Field.{exp, value}
 
 -- the minimal polynomials of c^11, c^9, c^7, c, c^3 and c^5
 abbrev pub g1 : ℕ
-g1 = 0b1001_0001 -- 1 + x^4 + x^7
+g1 = 0b1001_0001  -- 1 + x^4 + x^7
 
 abbrev pub g2 : ℕ
-g2 = 0b1001_1101 -- 1 + x^2 + x^3 + x^4 + x^7
+g2 = 0b1001_1101  -- 1 + x^2 + x^3 + x^4 + x^7
 
 abbrev pub g3 : ℕ
-g3 = 0b1011_1111 -- 1 + x + x^2 + x^3 + x^4 + x^5 + x^7
+g3 = 0b1011_1111  -- 1 + x + x^2 + x^3 + x^4 + x^5 + x^7
 
 abbrev pub g4 : ℕ
-g4 = 0b1100_0001 -- 1 + x^6 + x^7
+g4 = 0b1100_0001  -- 1 + x^6 + x^7
 
 abbrev pub g5 : ℕ
-g5 = 0b1101_0101 -- 1 + x^2 + x^4 + x^6 + x^7
+g5 = 0b1101_0101  -- 1 + x^2 + x^4 + x^6 + x^7
 
 abbrev pub g6 : ℕ
-g6 = 0b1111_0001 -- 1 + x^4 + x^5 + x^6 + x^7
+g6 = 0b1111_0001  -- 1 + x^4 + x^5 + x^6 + x^7
 
 -- the generator, their product, of degree 42
 unfoldable pub generator : ℕ
