@@ -1,4 +1,5 @@
 pub mod Words
+pub mod Numbers
 pub mod Sums
 pub mod Distances
 pub mod Division

@@ -4,15 +4,18 @@ use mathlib.Core.Bool.{Bool, true}
 use mathlib.Core.List.{List, [], _∷_, _++_}
 use Prim.Native.Nat.{ℕ, zero, suc, _+_, _*_, _/_, _%_, _^_, _<_, _≤_}
 use native.Mathlib.Nat.{pow-suc}
+use native.Mathlib.Numerals.{add-one}
 use native.Mathlib.Omega.{arith}
 use lib.Pow.{pow-pos}
 use lib.Dec.{eqb, lit<, lit≤}
 use lib.ListN.{length, length-append}
 use lib.Bits.{bitXor, xor-comm, xor-self, xor-lt, xor-zero-r, xor-shr, xor-mod}
+use Rattle.std.proofs.shelf.Bits.{shr-shr}
 use Rattle.std.proofs.shelf.Tests.{eqb-true}
-use Rattle.coding.specs.Bits.{areBits, bits}
+use Rattle.coding.specs.Bits.{areBits, bits, number}
 use Rattle.coding.specs.Polynomial.{times, reduced, remainder, OnlyRemainder}
 use Rattle.coding.proofs.Words.{bits-parts, bits-none, bits-low, length-bits}
+use Rattle.coding.proofs.Numbers.{bits-number}
 use Rattle.coding.proofs.Sums.{xor-swap}
 use Rattle.coding.proofs.Quotient.{division, reduced-is, reduced-small, brought, top-below}
 use Rattle.field.specs.Field.{byC, byPower, shiftAdd, mul, exp, power, value}
@@ -25,7 +28,7 @@ pub evaluate : ℕ → ℕ → ℕ → ℕ
 evaluate zero a r = 0
 evaluate (suc n) a r = bitXor (r % 2) (mul a (evaluate n a (r / 2)))
 
-evaluate-xor : (n a r s : ℕ) → evaluate n a (bitXor r s) ≡ bitXor (evaluate n a r) (evaluate n a s)
+pub evaluate-xor : (n a r s : ℕ) → evaluate n a (bitXor r s) ≡ bitXor (evaluate n a r) (evaluate n a s)
 unfolding evaluate
 evaluate-xor zero a r s = refl
 evaluate-xor (suc n) a r s =
@@ -34,27 +37,27 @@ evaluate-xor (suc n) a r s =
     ∙ dist a (evaluate n a (r / 2)) (evaluate n a (s / 2)))
     ∙ xor-swap (r % 2) (s % 2) (mul a (evaluate n a (r / 2))) (mul a (evaluate n a (s / 2)))
 
-evaluate-double : (n a r : ℕ) → evaluate (suc n) a (r * 2) ≡ mul a (evaluate n a r)
+pub evaluate-double : (n a r : ℕ) → evaluate (suc n) a (r * 2) ≡ mul a (evaluate n a r)
 unfolding evaluate
 evaluate-double n a r =
     let e : r * 2 % 2 ≡ 0 = omega arith in
     let f : r * 2 / 2 ≡ r = omega arith in
     ap₂ (λ (x y : ℕ). bitXor x (mul a (evaluate n a y))) e f
 
-evaluate-zero : (n a : ℕ) → evaluate n a 0 ≡ 0
+pub evaluate-zero : (n a : ℕ) → evaluate n a 0 ≡ 0
 unfolding evaluate
 evaluate-zero zero a = refl
 evaluate-zero (suc n) a = ap (mul a) (evaluate-zero n a) ∙ zero-r a
 
 -- a coefficient more than there are changes nothing
-evaluate-fuel : (n a r : ℕ) → r < 2 ^ n → evaluate (suc n) a r ≡ evaluate n a r
+pub evaluate-fuel : (n a r : ℕ) → r < 2 ^ n → evaluate (suc n) a r ≡ evaluate n a r
 unfolding evaluate
 evaluate-fuel zero a r h = let e : r ≡ 0 = omega arith in ap (evaluate 1 a) e ∙ evaluate-zero 1 a
 evaluate-fuel (suc n) a r h =
     let e : 2 ^ suc n ≡ 2 ^ n * 2 = pow-suc 2 n in
     ap (λ (z : ℕ). bitXor (r % 2) (mul a z)) (evaluate-fuel n a (r / 2) (omega arith))
 
-evaluate-small : (n a r : ℕ) → evaluate n a r < 128
+pub evaluate-small : (n a r : ℕ) → evaluate n a r < 128
 unfolding evaluate
 evaluate-small zero a r = lit< tt
 evaluate-small (suc n) a r = xor-lt 7 (r % 2) (mul a (evaluate n a (r / 2))) (omega arith) (mul-small a (evaluate n a (r / 2)))
@@ -73,6 +76,17 @@ unfolding evaluate power
 evaluate-top zero a = ap (bitXor 1) (zero-r a)
 evaluate-top (suc n) a = ap (evaluate (suc (suc n)) a) (pow-suc 2 n) ∙ evaluate-double (suc n) a (2 ^ n) ∙ ap (mul a) (evaluate-top n a)
 
+-- Horner's rule, from the bit i + 1 down
+pub evaluate-more : (n a r i : ℕ) → evaluate (suc n) a (r / 2 ^ i) ≡ bitXor (mul a (evaluate n a (r / 2 ^ suc i))) (r / 2 ^ i % 2)
+unfolding evaluate
+evaluate-more n a r i =
+    let e : r / 2 ^ i / 2 ≡ r / 2 ^ suc i = shr-shr r i 1 ∙ ap (λ (k : ℕ). r / 2 ^ k) (add-one i) in
+    ap (λ (z : ℕ). bitXor (r / 2 ^ i % 2) (mul a (evaluate n a z))) e ∙ xor-comm (r / 2 ^ i % 2) (mul a (evaluate n a (r / 2 ^ suc i)))
+
+pub evaluate-none : (a r : ℕ) → evaluate 0 a r ≡ 0
+unfolding evaluate
+evaluate-none a r = refl
+
 -- ---- the value at a of a word
 append-sorted : (b p q v w : ℕ) → bitXor (mul b (mul p q)) (bitXor (mul q v) w) ≡ bitXor (mul q (bitXor (mul b p) v)) w
 append-sorted b p q v w = simp ring
@@ -90,7 +104,7 @@ unfolding value power
 value-push a xs b ha hb =
     value-append a xs (b ∷ []) ∙ ap₂ bitXor (ap (λ (z : ℕ). mul z (value a xs)) (mul-one a ha)) (xor-zero-r (mul b 1) ∙ mul-one b hb)
 
-value-bits : (a n r : ℕ) → a < 128 → value a (bits n r) ≡ evaluate n a r
+pub value-bits : (a n r : ℕ) → a < 128 → value a (bits n r) ≡ evaluate n a r
 unfolding evaluate value
 value-bits a zero r h = ap (value a) (bits-none r)
 value-bits a (suc n) r h =
@@ -138,6 +152,21 @@ module _ (n g a : ℕ) (lg : 2 ^ n ≤ g) (hg : g < 2 ^ suc n) (root : evaluate 
       (value-bits a n p ha ∙ evaluate-remainder 0 d hs (pow-pos n)
       ∙ ap (λ (z : ℕ). bitXor z (mul (power a n) (value a d))) (ap (mul (power a (length d))) (evaluate-zero n a) ∙ zero-r (power a (length d))))
       ∙ xor-self (mul (power a n) (value a d))
+
+  -- a word of data and parity has the value of its remainder, which is the data's parity and the parity that came, added
+  pub systematic-value : (d p : List ℕ) → a < 128 → areBits d ≡ true → areBits p ≡ true → length p ≡ n
+    → value a (d ++ p) ≡ value a (bits n (bitXor (remainder n g 0 d) (number p)))
+  systematic-value d p ha hd hp l =
+      let r : ℕ = remainder n g 0 d in
+      let front : mul (power a n) (value a d) ≡ evaluate n a r =
+          sym (evaluate-remainder 0 d hd (pow-pos n)
+            ∙ ap (λ (z : ℕ). bitXor z (mul (power a n) (value a d)))
+              (ap (mul (power a (length d))) (evaluate-zero n a) ∙ zero-r (power a (length d))))
+      in
+      value-append a d p
+      ∙ ap₂ bitXor (ap (λ (m : ℕ). mul (power a m) (value a d)) l ∙ front)
+        (ap (value a) (sym (bits-number p n l hp)) ∙ value-bits a n (number p) ha)
+      ∙ sym (evaluate-xor n a r (number p)) ∙ sym (value-bits a n (bitXor r (number p)) ha)
 
 -- ---- the code
 pub generator-degree : (2 ^ 42 ≤ generator) × (generator < 2 ^ 43)
