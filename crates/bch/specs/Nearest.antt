@@ -41,6 +41,3 @@ pub record Near (w c : List ℕ) : Type 0 where
 pub record Finds (w : List ℕ) : Type 0 where
   pub some : (c : List ℕ) → (nearest w ≡ Some c) ↔ Near w c
   pub none : (nearest w ≡ None) ↔ ((c : List ℕ) → Near w c → ⊥)
-
-abbrev pub NearestLaw : Type 0
-NearestLaw = (w : List ℕ) → length w ≡ 111 → areBits w ≡ true → Finds w

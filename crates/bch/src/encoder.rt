@@ -2,7 +2,6 @@
 
 use crate::word::CodeRefusal;
 use coding::are_bits;
-
 ghost use mathlib.Core.Path.{_≡_};
 ghost use mathlib.Core.Bool.{true};
 ghost use mathlib.Core.List.{List, _++_};
@@ -70,5 +69,9 @@ fn after_bit(register: u64, bit: u8) -> u64
     ensures small { λ r. ⌜ r < 2 ^ 42 ⌝ }
 {
     let moved = (register * 2) ^ (u64::from(bit) * TOP);
-    if moved < TOP { moved } else { moved ^ GENERATOR }
+    if moved < TOP {
+        moved
+    } else {
+        moved ^ GENERATOR
+    }
 }

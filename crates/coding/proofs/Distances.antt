@@ -28,6 +28,15 @@ pub distance-other : (a b : ℕ) (u v : List ℕ) → (a ≡ b → ⊥) → dist
 unfolding distance
 distance-other a b u v n = rw (ne-eqb a b n) (omega arith)
 
+-- a place more is at most one difference more
+pub distance-step : (a b : ℕ) (u v : List ℕ) → distance (a ∷ u) (b ∷ v) ≤ suc (distance u v)
+unfolding distance
+distance-step a b u v = by (eqb a b)
+  where
+    by : (t : Bool) → cond t 0 1 + distance u v ≤ suc (distance u v)
+    by true = omega arith
+    by false = omega arith
+
 pub distance-self : (u : List ℕ) → distance u u ≡ 0
 unfolding distance
 distance-self [] = refl

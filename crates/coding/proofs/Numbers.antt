@@ -43,7 +43,7 @@ number-after x [] = omega arith
 number-after x (b ∷ bs) =
     let n : ℕ = length bs in
     let e : numberAfter (0 * 2 + b) bs ≡ b * 2 ^ n + number bs =
-        number-after (0 * 2 + b) bs ∙ ap (λ (z : ℕ). z * 2 ^ n + number bs) (zero-add b)
+    number-after (0 * 2 + b) bs ∙ ap (λ (z : ℕ). z * 2 ^ n + number bs) (zero-add b)
     in
     number-after (x * 2 + b) bs ∙ ap (λ (z : ℕ). z + number bs) (shifted x b n)
     ∙ add-assoc (x * 2 ^ suc n) (b * 2 ^ n) (number bs) ∙ ap (λ (z : ℕ). x * 2 ^ suc n + z) (sym e)
@@ -55,7 +55,7 @@ number-below (b ∷ bs) h =
     let p = bits-parts b bs h in
     let n : ℕ = length bs in
     let e : numberAfter (0 * 2 + b) bs ≡ b * 2 ^ n + number bs =
-        number-after (0 * 2 + b) bs ∙ ap (λ (z : ℕ). z * 2 ^ n + number bs) (zero-add b)
+    number-after (0 * 2 + b) bs ∙ ap (λ (z : ℕ). z * 2 ^ n + number bs) (zero-add b)
     in
     let s : 2 ^ suc n ≡ 2 ^ n * 2 = pow-suc 2 n in
     below b (2 ^ n) (number bs) (number (b ∷ bs)) (2 ^ suc n) e s (p .0) (number-below bs (p .1))
@@ -73,7 +73,7 @@ bits-number-after x (b ∷ bs) h =
     let p = bits-parts b bs h in
     let n : ℕ = length bs in
     let e : numberAfter (x * 2 + b) bs / 2 ^ n ≡ x * 2 + b =
-        ap (λ (z : ℕ). z / 2 ^ n) (number-after (x * 2 + b) bs) ∙ shr-high (x * 2 + b) n (number bs) (number-below bs (p .1))
+    ap (λ (z : ℕ). z / 2 ^ n) (number-after (x * 2 + b) bs) ∙ shr-high (x * 2 + b) n (number bs) (number-below bs (p .1))
     in
     let d : numberAfter (x * 2 + b) bs / 2 ^ n % 2 ≡ b = ap (λ (z : ℕ). z % 2) e ∙ low b (p .0) in
     ap₂ (λ (y : ℕ) (ys : List ℕ). y ∷ ys) d (bits-number-after (x * 2 + b) bs (p .1))

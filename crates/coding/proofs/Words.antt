@@ -99,3 +99,8 @@ bits-not w i h b =
 
 pub bits-all : (w : List ℕ) (i : ℕ) → length w ≤ i → areBits (drop i w) ≡ true
 bits-all w i h = at-drop-all areBits w i h
+
+pub bits-drop : (n : ℕ) (xs : List ℕ) → areBits xs ≡ true → areBits (drop n xs) ≡ true
+bits-drop zero xs h = h
+bits-drop (suc n) [] h = refl
+bits-drop (suc n) (x ∷ xs) h = bits-drop n xs (bits-parts x xs h .1)

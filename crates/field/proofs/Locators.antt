@@ -41,7 +41,7 @@ recurrence-powerSum xs n [] = sym (powerSum-nought xs n (λ x. 0) (λ x. refl))
 recurrence-powerSum xs n (l ∷ ls) =
     ap₂ bitXor (powerSum-scale l (length ls) n xs) (recurrence-powerSum xs n ls) ∙ sym (powerSum-plus (λ x. mul l (power x (length ls))) (λ x. value x ls) xs n)
 
-value-small : (x : ℕ) (ls : List ℕ) → value x ls < 128
+pub value-small : (x : ℕ) (ls : List ℕ) → value x ls < 128
 unfolding value
 value-small x [] = lit< tt
 value-small x (l ∷ ls) = xor-lt 7 (mul l (power x (length ls))) (value x ls) (mul-small l (power x (length ls))) (value-small x ls)

@@ -155,17 +155,17 @@ module _ (n g a : ℕ) (lg : 2 ^ n ≤ g) (hg : g < 2 ^ suc n) (root : evaluate 
 
   -- a word of data and parity has the value of its remainder, which is the data's parity and the parity that came, added
   pub systematic-value : (d p : List ℕ) → a < 128 → areBits d ≡ true → areBits p ≡ true → length p ≡ n
-    → value a (d ++ p) ≡ value a (bits n (bitXor (remainder n g 0 d) (number p)))
+      → value a (d ++ p) ≡ value a (bits n (bitXor (remainder n g 0 d) (number p)))
   systematic-value d p ha hd hp l =
       let r : ℕ = remainder n g 0 d in
       let front : mul (power a n) (value a d) ≡ evaluate n a r =
-          sym (evaluate-remainder 0 d hd (pow-pos n)
-            ∙ ap (λ (z : ℕ). bitXor z (mul (power a n) (value a d)))
-              (ap (mul (power a (length d))) (evaluate-zero n a) ∙ zero-r (power a (length d))))
+      sym (evaluate-remainder 0 d hd (pow-pos n)
+      ∙ ap (λ (z : ℕ). bitXor z (mul (power a n) (value a d)))
+      (ap (mul (power a (length d))) (evaluate-zero n a) ∙ zero-r (power a (length d))))
       in
       value-append a d p
       ∙ ap₂ bitXor (ap (λ (m : ℕ). mul (power a m) (value a d)) l ∙ front)
-        (ap (value a) (sym (bits-number p n l hp)) ∙ value-bits a n (number p) ha)
+      (ap (value a) (sym (bits-number p n l hp)) ∙ value-bits a n (number p) ha)
       ∙ sym (evaluate-xor n a r (number p)) ∙ sym (value-bits a n (bitXor r (number p)) ha)
 
 -- ---- the code

@@ -28,7 +28,7 @@ returns-then-not-solve-from t c =
     let h : c .args .col < c .args .v = omega arith in
     record {
       small = c .if-not-solve-from .ensures tt .small;
-      solved = λ e. absurd (both-ways false refl e);
+      solved = λ e i k. absurd (both-ways false refl e);
       none = λ e. free-none (c .args .rows .now) (c .args .col) (c .args .v) h (c .pre .columns .1)
           (λ k l. c .pivot-p .ensures .before k (omega arith)) (c .if-not-solve-from .ensures tt .none refl);
     }
@@ -50,7 +50,7 @@ returns-then-not-solve-from-2 t c =
     let hp : c .pivot-p .result < length (c .args .rows .now) = omega arith in
     record {
       small = c .if-not-solve-from-2 .ensures tt .small;
-      solved = λ e. absurd (both-ways false refl e);
+      solved = λ e i k. absurd (both-ways false refl e);
       none = λ e. pivot-none (c .args .rows .now) (c .args .col) (c .args .v) h (c .pre .columns .1)
           (c .pivot-p .result) hp (c .eliminate .last .rows) (omega arith) (c .eliminate .ensures) (c .if-not-solve-from-2 .ensures tt .none refl);
     }

@@ -20,5 +20,5 @@ returns c =
       is = ap Ok e ∙ sym (cond-true (areBits d) (Ok (encode d)) (Err NotBits) bit);
       only = λ h. parity-remains d h;
       roots = λ w q i h. roots w (let s : c .with-parity .result ≡ w = cc in subst Codeword s code) i h;
-      far = λ w v q cv near. far w v (let s : c .with-parity .result ≡ w = cc in subst Codeword s code) cv near
+      far = λ w v q cv near. far w v (let s : c .with-parity .result ≡ w = cc in subst Codeword s code) cv near;
     }

@@ -14,15 +14,16 @@ pub after-bit-register-requires : need.after-bit-register-requires
 after-bit-register-requires c κs = (c .loop-bit .inv .1, bit-at (c .args .«data» .now) (c .pre) (c .loop-bit .bit-index))
 
 pub loop-bit-again : need.loop-bit-again
-loop-bit-again c =
-    (remainder-at 42 generator (c .loop-bit .register) (c .args .«data» .now) (c .loop-bit .bit-index) (c .after-bit-register .result)
-        (omega arith) (c .after-bit-register .ensures .is)
+loop-bit-again c = (
+  remainder-at 42 generator (c .loop-bit .register) (c .args .«data» .now) (c .loop-bit .bit-index) (c .after-bit-register .result)
+      (omega arith) (c .after-bit-register .ensures .is)
       ∙ c .loop-bit .inv .0,
-      c .after-bit-register .ensures .small)
+  c .after-bit-register .ensures .small,
+)
 
 pub returns : need.returns
 returns c =
     record {
       is = sym (remainder-all 42 generator (c .loop-bit .register) (c .args .«data» .now) (c .loop-bit .bit-index) (omega arith)) ∙ c .loop-bit .inv .0;
-      small = c .loop-bit .inv .1
+      small = c .loop-bit .inv .1;
     }
