@@ -7,6 +7,8 @@ use native.Mathlib.Omega.{arith}
 use lib.Pow.{pow-pos}
 use lib.Bits.{bitAnd, bitXor, and-mask, xor-shr}
 use lib.Dec.{ltb}
+use lib.ListN.{length, drop, getD}
+use Rattle.std.proofs.shelf.Lists.{drop-more, drop-all}
 use Rattle.std.proofs.shelf.Tests.{cond-below, cond-above}
 use Rattle.coding.specs.Bits.{bits}
 use Rattle.coding.specs.Polynomial.{reduced, remainder}
@@ -57,3 +59,13 @@ remainder-bit n g r x (suc i) y h e =
     ap₂ (λ (z : ℕ) (k : ℕ). remainder n g z (bits k x)) (e ∙ ap (λ (z : ℕ). reduced n g (bitXor (r * 2) (z * 2 ^ n))) b) j
     ∙ sym (remainder-more n g r (x / 2 ^ i % 2) (bits i x))
     ∙ ap (remainder n g r) (sym (bits-step i x))
+
+-- a loop over a word: the coefficient at i is brought down
+pub remainder-at : (n g r : ℕ) (w : List ℕ) (i y : ℕ) → i < length w → y ≡ reduced n g (bitXor (r * 2) (getD w i 0 * 2 ^ n))
+    → remainder n g y (drop (i + 1) w) ≡ remainder n g r (drop i w)
+remainder-at n g r w i y h e =
+    ap (λ (z : ℕ). remainder n g z (drop (i + 1) w)) e ∙ sym (remainder-more n g r (getD w i 0) (drop (i + 1) w))
+    ∙ ap (remainder n g r) (sym (drop-more w i 0 h))
+
+pub remainder-all : (n g r : ℕ) (w : List ℕ) (i : ℕ) → length w ≤ i → remainder n g r (drop i w) ≡ r
+remainder-all n g r w i h = ap (remainder n g r) (drop-all i w h) ∙ remainder-none n g r

@@ -1,0 +1,33 @@
+use mathlib.Core.Path.{_≡_, refl, sym, ap, subst, _∙_}
+use Prim.Native.Nat.{ℕ}
+use native.Mathlib.Omega.{arith}
+use Rattle.std.specs.declared.option.Option.the-variants.{Some, None}
+use Rattle.coding.specs.Distance.{distance}
+use Rattle.bch.specs.declared.word.Corrected.{Corrected}
+use Rattle.bch.specs.Nearest.{Near}
+use Rattle.bch.proofs.Remainders.{codeword-from, codeword-leftover}
+use Rattle.bch.proofs.decoder.accepted.Needs as need
+
+pub returns-then-remainder-ne0 : need.returns-then-remainder-ne0
+returns-then-remainder-ne0 c =
+    record {
+      some = λ a e. let z : _≡_ {A = ℕ} 0 1 = cc in absurd (omega arith);
+      none = λ _ n. c .if-remainder-ne0 .taken (c .remainder .ensures ∙ codeword-leftover (c .args .word .now) (n .code));
+    }
+
+pub returns : need.returns
+returns c =
+    let w = c .args .word .now in
+    let r = c .args .received .now in
+    let d = c .distance-places .result in
+    let q : d ≡ distance r w = c .distance-places .ensures in
+    let near : Near r w =
+    record { code = codeword-from w (c .told-word) (c .pre) (sym (c .remainder .ensures) ∙ c .if-remainder-ne0 .left); near = omega (arith, q, c .if-places-gt6 .left) }
+    in
+    let answer : Corrected = record { codeword = w; places = d } in
+    record {
+      some = λ a e.
+          let s : answer ≡ a = cc in
+          subst (λ (a : Corrected). Near r (a .codeword) × (a .places ≡ distance r (a .codeword))) s (near, q);
+      none = λ e. let z : _≡_ {A = ℕ} 0 1 = cc in absurd (omega arith);
+    }
