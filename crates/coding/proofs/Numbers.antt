@@ -92,3 +92,9 @@ number-more w i x h = at-drop-more (numberAfter x) w i 0 h
 pub number-all : (w : List ℕ) (i x : ℕ) → length w ≤ i → numberAfter x (drop i w) ≡ x
 unfolding numberAfter
 number-all w i x h = at-drop-all (numberAfter x) w i h
+
+-- of a number's low 32 bits, only the low 32 of what the bits are added to count
+pub number-low : (x y : ℕ) (w : List ℕ) → x % 2 ^ 32 ≡ y % 2 ^ 32 → numberAfter x w % 2 ^ 32 ≡ numberAfter y w % 2 ^ 32
+unfolding numberAfter
+number-low x y [] e = e
+number-low x y (b ∷ w) e = number-low (x * 2 + b) (y * 2 + b) w (omega arith)

@@ -2,7 +2,7 @@
 use mathlib.Core.Path.{_≡_, refl, sym, ap, ap₂, _∙_}
 use mathlib.Core.Bool.{Bool, true, false, _&&_}
 use mathlib.Core.List.{List, [], _∷_, _++_}
-use Prim.Native.Nat.{ℕ, zero, suc, _+_, _/_, _%_, _^_, _<_, _≤_}
+use Prim.Native.Nat.{ℕ, zero, suc, _+_, _-_, _/_, _%_, _^_, _<_, _≤_}
 use native.Mathlib.Numerals.{add-one, one-add}
 use native.Mathlib.Omega.{arith}
 use lib.Dec.{ltb, lit<}
@@ -104,3 +104,10 @@ pub bits-drop : (n : ℕ) (xs : List ℕ) → areBits xs ≡ true → areBits (d
 bits-drop zero xs h = h
 bits-drop (suc n) [] h = refl
 bits-drop (suc n) (x ∷ xs) h = bits-drop n xs (bits-parts x xs h .1)
+
+-- the bit at a place, counted from 0
+pub bits-place : (n x k : ℕ) → k < n → getD (bits n x) k 0 ≡ x / 2 ^ (n - 1 - k) % 2
+unfolding bits
+bits-place zero x k h = absurd (omega arith)
+bits-place (suc n) x zero h = ap (λ (m : ℕ). x / 2 ^ m % 2) (omega arith)
+bits-place (suc n) x (suc k) h = bits-place n x k (omega arith) ∙ ap (λ (m : ℕ). x / 2 ^ m % 2) (omega arith)
