@@ -2,7 +2,7 @@
 
 ghost use mathlib.Core.Path.{_≡_};
 ghost use mathlib.Core.Bool.{cond};
-ghost use Prim.Native.Nat.{ℕ, _≤_};
+ghost use Prim.Native.Nat.{ℕ, _+_, _<_, _≤_};
 ghost use lib.ListN.{length};
 ghost use Rattle.std.specs.declared.result.Result.the-variants.{Ok, Err};
 ghost use Rattle.card.specs.Fields.{isSymbol, symbolCode, count, extensionInside, isPrinting};
@@ -56,7 +56,7 @@ fn check_symbols(symbols: &[u8]) -> Result<(), CardRefusal>
     ensures { λ r. ⌜ r ≡ symbolsAnswer (now (symbols .entry)) ⌝ }
 {
     for (i, symbol) in symbols.iter().enumerate() {
-        symbol_code(char::from(*symbol), i as u8 + 1)?;
+        symbol_code(char::from(*symbol), place_at(i))?;
     }
     Ok(())
 }
@@ -102,7 +102,7 @@ fn check_octets(octets: &[u8]) -> Result<(), CardRefusal>
 {
     for (i, octet) in octets.iter().enumerate() {
         if !is_printing(*octet) {
-            return Err(CardRefusal::MessageOctet { place: i as u8 + 1 });
+            return Err(CardRefusal::MessageOctet { place: place_at(i) });
         }
     }
     Ok(())
@@ -113,4 +113,12 @@ fn is_printing(octet: u8) -> bool
     ensures { λ r. ⌜ r ≡ isPrinting octet ⌝ }
 {
     matches!(octet, 32..=126)
+}
+
+/// The place of what stands at `index`, counted from 1.
+fn place_at(index: usize) -> u8
+    requires { ⌜ index < 255 ⌝ }
+    ensures { λ r. ⌜ r ≡ index + 1 ⌝ }
+{
+    index as u8 + 1
 }

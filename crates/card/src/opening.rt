@@ -2,6 +2,7 @@
 
 ghost use mathlib.Core.Path.{_≡_};
 ghost use mathlib.Core.Bool.{Bool, true, cond};
+ghost use lib.Dec.{eqb};
 ghost use lib.ListN.{length};
 ghost use Rattle.std.specs.Options.{mapped};
 ghost use Rattle.std.specs.declared.option.Option.the-variants.{Some, None};
@@ -26,7 +27,7 @@ impl Identifier {
         if rest.len() != 8 {
             return Err(CardRefusal::NotNineOctets);
         }
-        if *check != crc8(rest) {
+        if !is_check_octet(*check, rest) {
             return Err(CardRefusal::CheckOctet);
         }
         let mut identifier = [0; 8];
@@ -51,6 +52,13 @@ impl Identifier {
     {
         crc8(&self.octets)
     }
+}
+
+/// Whether `check` is the CRC-8 of the octets.
+fn is_check_octet(check: u8, octets: &[u8]) -> bool
+    ensures { λ r. ⌜ r ≡ eqb check (crc (octetBits (now (octets .entry)))) ⌝ }
+{
+    check == crc8(octets)
 }
 
 /// Whether the first octet has the low bits 0 that the fourth and the fifth ask for.

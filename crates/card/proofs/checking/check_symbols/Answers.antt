@@ -1,4 +1,4 @@
-use mathlib.Core.Path.{_≡_, refl, sym, ap, _∙_}
+use mathlib.Core.Path.{_≡_, sym, ap, ap₂, _∙_}
 use mathlib.Core.Bool.{cond}
 use Prim.Native.Nat.{ℕ, _+_}
 use native.Mathlib.Omega.{arith}
@@ -12,16 +12,19 @@ use Rattle.card.specs.declared.refusal.CardRefusal.the-variants.{TelephoneSymb
 use Rattle.card.proofs.Scans.{passed-more, refused-at, accepted-all, test-held, test-failed}
 use Rattle.card.proofs.checking.check_symbols.Needs as need
 
--- what is answered of the symbol at the place i
+-- what is answered of a symbol at a place, and at an index
+abbrev answered-at : ℕ → ℕ → Result ℕ CardRefusal
+answered-at x place = cond (isSymbol x) (Ok (symbolCode x)) (Err (TelephoneSymbol place))
+
 abbrev answered : ℕ → ℕ → Result ℕ CardRefusal
-answered x i = cond (isSymbol x) (Ok (symbolCode x)) (Err (TelephoneSymbol (i + 1)))
+answered x i = answered-at x (i + 1)
 
 pub returns-in-Break-symbol-code : need.returns-in-Break-symbol-code
 returns-in-Break-symbol-code c =
     let xs = c .args .symbols .now in
     let i = c .loop-i .i in
     let p = err-from-errBy (c .from-residual .result) (c .from-residual .ensures .1) in
-    let e : c .symbol-code .result ≡ answered (getD xs i 0) i = c .symbol-code .ensures ∙ ap (λ x. answered x i) (c .from .ensures) in
+    let e : c .symbol-code .result ≡ answered (getD xs i 0) i = c .symbol-code .ensures ∙ ap₂ answered-at (c .from .ensures) (c .place-at .ensures) in
     let t = test-failed (isSymbol (getD xs i 0)) (symbolCode (getD xs i 0)) (TelephoneSymbol (i + 1)) _ (c .symbol-code .result) e (c .in-Break-symbol-code .was tt) in
     p .1 ∙ ap Err (p .2 ∙ sym (t .1)) ∙ refused-at TelephoneSymbol isSymbol xs i (c .loop-i .inv) (omega arith) (t .0)
 
@@ -29,7 +32,7 @@ pub loop-i-again : need.loop-i-again
 loop-i-again c =
     let xs = c .args .symbols .now in
     let i = c .loop-i .i in
-    let e : c .symbol-code .result ≡ answered (getD xs i 0) i = c .symbol-code .ensures ∙ ap (λ x. answered x i) (c .from .ensures) in
+    let e : c .symbol-code .result ≡ answered (getD xs i 0) i = c .symbol-code .ensures ∙ ap₂ answered-at (c .from .ensures) (c .place-at .ensures) in
     let t = test-held (isSymbol (getD xs i 0)) (symbolCode (getD xs i 0)) _ (TelephoneSymbol (i + 1)) (c .symbol-code .result) e (c .in-Continue-symbol-code .was tt) in
     passed-more isSymbol xs i (omega arith) t (c .loop-i .inv)
 

@@ -3,13 +3,14 @@ use mathlib.Core.Path.{_≡_, refl, sym, ap, _∙_}
 use mathlib.Core.Bool.{Bool, true, false, cond}
 use mathlib.Core.List.{List}
 use Prim.Native.Nat.{ℕ, _-_}
+use lib.Dec.{eqb}
 use lib.ListN.{length, take, drop, getD}
 use Rattle.std.specs.Options.{mapped, okOr}
 use Rattle.std.specs.declared.option.Option.{Option}
 use Rattle.std.specs.declared.option.Option.the-variants.{Some, None}
 use Rattle.std.specs.declared.result.Result.the-variants.{Ok, Err}
 use Rattle.std.proofs.shelf.Parts.{between-to-end}
-use Rattle.std.proofs.shelf.Tests.{cond-true, eq-eqb}
+use Rattle.std.proofs.shelf.Tests.{cond-true, eq-eqb, eqb-true, eqb-false}
 use Rattle.std.proofs.shelf.Ways.{tells}
 use Rattle.coding.specs.Bits.{octetBits}
 use Rattle.coding.specs.Crc.{crc8}
@@ -42,21 +43,24 @@ octets-in : (o : Option Identifier) (e : CardRefusal) → octetsIn (okOr o e) �
 octets-in None e = refl
 octets-in (Some d) e = refl
 
-pub returns-then-check-crc8 : need.returns-then-check-crc8
-returns-then-check-crc8 c =
+-- the test of the check octet, over what the pattern leaves
+tested : (s : List ℕ) (l : length s ≡ 9) (t : Bool) → t ≡ eqb (getD s 0 0) (crc8 (octetBits (take (length s - 1) (drop 1 s)))) → t ≡ eqb (getD s 0 0) (crc8 (octetBits (drop 1 s)))
+tested s l t e = e ∙ ap (λ (d : List ℕ). eqb (getD s 0 0) (crc8 (octetBits d))) (rest-of s l)
+
+pub returns-then-not-is-check-octet : need.returns-then-not-is-check-octet
+returns-then-not-is-check-octet c =
     let s = c .args .octets .now in
     let l : length s ≡ 9 = omega arith in
-    let r = rest-of s l in
-    wrong-check s l (λ e. c .if-check-crc8 .taken (cc))
+    wrong-check s l (eqb-false _ _ (sym (tested s l (c .is-check-octet .result) (c .is-check-octet .ensures)) ∙ c .if-not-is-check-octet .taken))
 
 pub returns : need.returns
 returns c =
     let s = c .args .octets .now in
     let l : length s ≡ 9 = omega arith in
     let r = rest-of s l in
-    let d : c .copy-from-slice .last .self ≡ drop 1 s = cc in
+    let d : c .copy-from-slice .last .self ≡ drop 1 s = c .copy-from-slice .ensures .after ∙ r in
     ap octetsIn (c .ok-or .ensures .value)
     ∙ octets-in (c .new .result) FirstOctet
     ∙ ap (λ (o : Option (List ℕ)). okOr o FirstOctet) (c .new .ensures)
     ∙ ap (λ (z : List ℕ). okOr (cond (keepsFirstOctet z) (Some z) None) FirstOctet) d
-    ∙ right-check s l (cc)
+    ∙ right-check s l (eqb-true _ _ (sym (tested s l (c .is-check-octet .result) (c .is-check-octet .ensures)) ∙ c .if-not-is-check-octet .left))
