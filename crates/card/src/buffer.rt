@@ -3,7 +3,7 @@
 ghost use mathlib.Core.Path.{_≡_};
 ghost use Prim.Native.Nat.{ℕ, _+_, _≤_};
 ghost use lib.ListN.{length};
-ghost use Rattle.card.specs.Buffers.{Written};
+ghost use Rattle.coding.specs.Buffers.{Written};
 
 /// Writes `octets` from the place `at` on, and says where they end.
 pub(crate) fn put(out: &mut [u8], at: usize, octets: &[u8]) -> usize

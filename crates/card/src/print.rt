@@ -9,7 +9,7 @@ ghost use Rattle.std.specs.Options.{mapped};
 ghost use Rattle.std.specs.Vec.{made};
 ghost use Rattle.std.specs.declared.option.Option.the-variants.{Some, None};
 ghost use Rattle.card.specs.Card.{valueOf, symbolsOf, octetsOf};
-ghost use Rattle.card.specs.Buffers.{Written};
+ghost use Rattle.coding.specs.Buffers.{Written};
 ghost use Rattle.card.specs.Print.{hexDigit, hexOctet, colonOctets, minutesText, identifierLine, latitudeLine, longitudeLine, telephoneLine, messageLine, printAnswer, printed};
 use crate::buffer::put;
 use crate::card::Card;

@@ -4,3 +4,4 @@ pub mod Sums
 pub mod Distances
 pub mod Division
 pub mod Quotient
+pub mod Overwriting

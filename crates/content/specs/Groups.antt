@@ -1,8 +1,8 @@
--- Numbers written as groups of bits of one width, one group after the other.
+-- Numbers as groups of bits of one width, one group after the other.
 use mathlib.Core.List.{List, [], _∷_, _++_}
 use Prim.Native.Nat.{ℕ, zero, suc}
 use lib.ListN.{take, drop}
 use Rattle.coding.specs.Bits.{bits, number}
 
 -- the w low bits of each number
 unfoldable pub groupBits : ℕ → List ℕ → List ℕ

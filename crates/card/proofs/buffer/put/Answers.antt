@@ -6,7 +6,7 @@ use lib.ListN.{length, take, drop}
 use lib.Seq.{take-length}
 use borrow.Rule.Slice.PartMut.{putMid}
 use Rattle.std.proofs.shelf.Parts.{putMid-paste}
-use Rattle.card.specs.Buffers.{overwritten}
+use Rattle.coding.specs.Buffers.{overwritten}
 use Rattle.card.proofs.buffer.put.Needs as need
 
 pasted : (a : ℕ) (xs ys zs : List ℕ) → ys ≡ zs → putMid a (a + length zs - a) xs ys ≡ overwritten a zs xs

@@ -6,7 +6,7 @@ use lib.Chars.{codes}
 use lib.ListN.{length, take, getD}
 use Rattle.std.proofs.shelf.Lists.{take-all}
 use Rattle.card.specs.Print.{hexOctet, colonOctets}
-use Rattle.card.proofs.Overwriting.{same-octets, then-written, written-none}
+use Rattle.coding.proofs.Overwriting.{same-octets, then-written, written-none}
 use Rattle.card.proofs.Hexadecimal.{colon-more}
 use Rattle.card.proofs.print.put_colon_octets.Needs as need
 

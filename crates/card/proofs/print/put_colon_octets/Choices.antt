@@ -1,7 +1,7 @@
 use Prim.Native.Nat.{_+_, _*_, _≤_}
 use mathlib.Core.Path.{_≡_}
 use lib.ListN.{length, take}
-use Rattle.card.specs.Buffers.{Written}
+use Rattle.coding.specs.Buffers.{Written}
 use Rattle.card.specs.Print.{colonOctets}
 use Rattle.card.proofs.print.put_colon_octets.Given as given
 

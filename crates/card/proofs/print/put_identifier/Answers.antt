@@ -7,7 +7,7 @@ use lib.Chars.{codes}
 use lib.ListN.{length}
 use Rattle.std.proofs.shelf.Lists.{append-assoc}
 use Rattle.card.specs.Print.{hexOctet, colonOctets, identifierLine}
-use Rattle.card.proofs.Overwriting.{same-octets, then-written}
+use Rattle.coding.proofs.Overwriting.{same-octets, then-written}
 use Rattle.card.proofs.print.put_identifier.Needs as need
 
 -- the four parts are the line

@@ -2,7 +2,7 @@ use mathlib.Core.Path.{_≡_, sym, ap, _∙_}
 use native.Mathlib.Omega.{arith}
 use lib.ListN.{length}
 use Rattle.card.specs.Print.{latitudeLine}
-use Rattle.card.proofs.Overwriting.{same-octets}
+use Rattle.coding.proofs.Overwriting.{same-octets}
 use Rattle.card.proofs.print.put_latitude.Needs as need
 
 pub returns-in-Some : need.returns-in-Some

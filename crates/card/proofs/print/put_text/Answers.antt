@@ -1,7 +1,7 @@
 use native.Mathlib.Omega.{arith}
 use mathlib.Core.List.{_++_}
 use lib.Chars.{codes}
-use Rattle.card.proofs.Overwriting.{same-octets, then-written}
+use Rattle.coding.proofs.Overwriting.{same-octets, then-written}
 use Rattle.std.proofs.shelf.Lists.{append-assoc}
 use Rattle.card.proofs.print.put_text.Needs as need
 

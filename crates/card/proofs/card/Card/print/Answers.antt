@@ -7,11 +7,11 @@ use lib.ListN.{length}
 use Rattle.std.specs.Options.{mapped}
 use Rattle.std.specs.declared.result.Result.the-variants.{Ok, Err}
 use Rattle.std.proofs.shelf.Tests.{cond-above}
-use Rattle.card.specs.Buffers.{Written, overwritten}
+use Rattle.coding.specs.Buffers.{Written, overwritten}
 use Rattle.card.specs.Card.{CardValue, valueOf, symbolsOf, octetsOf}
 use Rattle.card.specs.Print.{identifierLine, latitudeLine, longitudeLine, telephoneLine, messageLine, cardText, printAnswer, printed}
 use Rattle.card.specs.declared.refusal.PrintRefusal.the-variants.{ShortBuffer}
-use Rattle.card.proofs.Overwriting.{same-octets, then-written}
+use Rattle.coding.proofs.Overwriting.{same-octets, then-written}
 use Rattle.card.proofs.card.Card.print.Needs as need
 
 regroup : (a b c d e : List ℕ) → (((a ++ b) ++ c) ++ d) ++ e ≡ a ++ (b ++ (c ++ (d ++ e)))

@@ -6,7 +6,7 @@ use Rattle.std.specs.declared.result.Result.the-variants.{Ok}
 use Rattle.card.specs.Fields.{isMessage, each, isPrinting}
 use Rattle.card.specs.Card.{messageAnswer, whereAccepted}
 use Rattle.card.proofs.Accepted.{accepted-message, not-longer}
-use Rattle.card.proofs.Overwriting.{front-of}
+use Rattle.coding.proofs.Overwriting.{front-of}
 use Rattle.card.proofs.fields.Message.new.Needs as need
 
 pub ghost-result : need.ghost-result

@@ -6,7 +6,7 @@ use Rattle.std.specs.declared.result.Result.the-variants.{Ok}
 use Rattle.card.specs.Fields.{isTelephone, each, isSymbol, extensionInside}
 use Rattle.card.specs.Card.{telephoneAnswer, whereAccepted}
 use Rattle.card.proofs.Accepted.{accepted-telephone, not-longer}
-use Rattle.card.proofs.Overwriting.{front-of}
+use Rattle.coding.proofs.Overwriting.{front-of}
 use Rattle.card.proofs.fields.Telephone.new.Needs as need
 
 pub ghost-result : need.ghost-result

@@ -6,7 +6,7 @@ use native.Mathlib.Omega.{arith}
 use lib.ListN.{length, take, drop}
 use native.Mathlib.Nat.{zero-add, add-zero}
 use Rattle.std.proofs.shelf.Lists.{take-append-drop, take-at, drop-at, drop-drop, length-append, length-drop, length-take-le}
-use Rattle.card.specs.Buffers.{overwritten, Written}
+use Rattle.coding.specs.Buffers.{overwritten, Written}
 
 -- what is written at the front is read back
 pub front-of : (octets buffer after : List ℕ) (n : ℕ) → n ≡ 0 + length octets → after ≡ overwritten 0 octets buffer → take n after ≡ octets

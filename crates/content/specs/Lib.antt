@@ -1,0 +1,4 @@
+pub mod Groups
+pub mod Kind
+pub mod Kinds
+pub mod Sequence
