@@ -17,7 +17,7 @@ use Rattle.std.proofs.shelf.Ways.{tells}
 use Rattle.coding.specs.Bits.{octetBits}
 use Rattle.coding.specs.Crc.{crc8}
 use Rattle.card.specs.Fields.{keepsFirstOctet}
-use Rattle.card.specs.Card.{Act, CardValue, answerTo, written, cardAfter, cardAfterAll, blank, blankIn}
+use Rattle.card.specs.Card.{Act, CardValue, answerTo, written, cardAfter, cardAfterAll, blank, onOk}
 use Rattle.card.specs.Card.Act.{enterLatitude, enterLongitude, enterTelephone, enterMessage, clearField}
 use Rattle.card.specs.Life.{clears, everCleared, sinceCleared, before, acceptedEntries, lastOr, standing, latitudeEntry, longitudeEntry, telephoneEntry, messageEntry, Stands, Lives}
 use Rattle.card.specs.declared.refusal.CardRefusal.{CardRefusal}
@@ -158,7 +158,7 @@ stands d acts = record {
 -- an opening that is accepted gives the blank card of the eight octets
 module _ (nine : List ℕ) (acts : List Act) where
   abbrev Held : Result (List ℕ) CardRefusal → Type 0
-  Held r = made (blankIn r) (λ c. Stands (drop 1 nine) acts (cardAfterAll c acts))
+  Held r = made (onOk blank r) (λ c. Stands (drop 1 nine) acts (cardAfterAll c acts))
 
   held : (x y z : Bool) → Held (cond x (cond y (cond z (Ok (drop 1 nine)) (Err FirstOctet)) (Err CheckOctet)) (Err NotNineOctets))
   held true true true = stands (drop 1 nine) acts

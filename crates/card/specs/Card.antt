@@ -5,7 +5,7 @@ use Prim.Native.Nat.{ℕ, suc}
 use lib.Dec.{eqb, leb}
 use lib.ListN.{length, getD, take, drop}
 use Rattle.std.specs.Options.{mapped}
-use Rattle.std.specs.Results.{isOk}
+use Rattle.std.specs.Results.{isOk, andOther}
 use Rattle.std.specs.declared.option.Option.{Option}
 use Rattle.std.specs.declared.option.Option.the-variants.{Some, None}
 use Rattle.std.specs.declared.result.Result.{Result}
@@ -17,7 +17,6 @@ use Rattle.card.specs.declared.card.Card.{Card}
 use Rattle.card.specs.declared.fields.Coordinate.{Coordinate}
 use Rattle.card.specs.declared.fields.Telephone.{Telephone}
 use Rattle.card.specs.declared.fields.Message.{Message}
-use Rattle.card.specs.declared.identifier.Identifier.{Identifier}
 use Rattle.card.specs.declared.refusal.CardRefusal.{CardRefusal}
 use Rattle.card.specs.declared.refusal.CardRefusal.the-variants.{NotNineOctets, CheckOctet, FirstOctet, Latitude, Longitude, TelephoneLength, TelephoneSymbol, TelephoneExtension, MessageLength, MessageOctet, NoSuchField}
 
@@ -44,14 +43,10 @@ valueOf c = record {
   message = mapped octetsOf (c .message);
 }
 
--- the same of an answer
-abbrev pub valueIn : Result Card CardRefusal → Result CardValue CardRefusal
-valueIn (Ok c) = Ok (valueOf c)
-valueIn (Err e) = Err e
-
-abbrev pub octetsIn : Result Identifier CardRefusal → Result (List ℕ) CardRefusal
-octetsIn (Ok d) = Ok (d .octets)
-octetsIn (Err e) = Err e
+-- what an answer holds where it accepts, seen by f
+abbrev pub onOk : {T U E : Type 0} → (T → U) → Result T E → Result U E
+onOk f (Ok x) = Ok (f x)
+onOk f (Err e) = Err e
 
 -- Opening: nine octets, the check octet first, which is the CRC-8 of the 64 bits that follow.
 abbrev pub identifierOf : List ℕ → Result (List ℕ) CardRefusal
@@ -66,12 +61,8 @@ identifierOf nine =
 abbrev pub blank : List ℕ → CardValue
 blank d = record { identifier = d; latitude = None; longitude = None; telephone = None; message = None }
 
-abbrev pub blankIn : Result (List ℕ) CardRefusal → Result CardValue CardRefusal
-blankIn (Ok d) = Ok (blank d)
-blankIn (Err e) = Err e
-
 abbrev pub opened : List ℕ → Result CardValue CardRefusal
-opened nine = blankIn (identifierOf nine)
+opened nine = onOk blank (identifierOf nine)
 
 -- What can be done to a card: to enter a field with any numbers or octets, and to clear the field of any number.
 pub data Act : Type 0 where
@@ -89,11 +80,6 @@ unfoldable pub firstFailing : (ℕ → Bool) → List ℕ → ℕ
 firstFailing p [] = 1
 firstFailing p (x ∷ xs) = cond (p x) (suc (firstFailing p xs)) 1
 
--- an answer, and where it accepts, another
-abbrev pub andThen : Result (Unit {0}) CardRefusal → Result (Unit {0}) CardRefusal → Result (Unit {0}) CardRefusal
-andThen (Ok x) r = r
-andThen (Err e) r = Err e
-
 -- accepted where the test holds, else refused
 abbrev pub unless : CardRefusal → Bool → Result (Unit {0}) CardRefusal
 unless e test = cond test (Ok tt) (Err e)
@@ -102,26 +88,13 @@ abbrev pub symbolsAnswer : List ℕ → Result (Unit {0}) CardRefusal
 symbolsAnswer t = unless (TelephoneSymbol (firstFailing isSymbol t)) (each isSymbol t)
 
 abbrev pub telephoneAnswer : List ℕ → Result (Unit {0}) CardRefusal
-telephoneAnswer t = andThen (unless TelephoneLength (lengthWithin 18 t)) (andThen (symbolsAnswer t) (unless TelephoneExtension (extensionInside t)))
+telephoneAnswer t = andOther (unless TelephoneLength (lengthWithin 18 t)) (andOther (symbolsAnswer t) (unless TelephoneExtension (extensionInside t)))
 
 abbrev pub octetsAnswer : List ℕ → Result (Unit {0}) CardRefusal
 octetsAnswer t = unless (MessageOctet (firstFailing isPrinting t)) (each isPrinting t)
 
 abbrev pub messageAnswer : List ℕ → Result (Unit {0}) CardRefusal
-messageAnswer t = andThen (unless MessageLength (lengthWithin 24 t)) (octetsAnswer t)
-
--- a value where the answer accepts it
-abbrev pub whereAccepted : {V : Type 0} → V → Result (Unit {0}) CardRefusal → Result V CardRefusal
-whereAccepted v (Ok x) = Ok v
-whereAccepted v (Err e) = Err e
-
-abbrev pub symbolsIn : Result Telephone CardRefusal → Result (List ℕ) CardRefusal
-symbolsIn (Ok t) = Ok (symbolsOf t)
-symbolsIn (Err e) = Err e
-
-abbrev pub messageIn : Result Message CardRefusal → Result (List ℕ) CardRefusal
-messageIn (Ok m) = Ok (octetsOf m)
-messageIn (Err e) = Err e
+messageAnswer t = andOther (unless MessageLength (lengthWithin 24 t)) (octetsAnswer t)
 
 -- The answer to an act: accepted, or its refusal, the checks in the order written.
 abbrev pub answerTo : Act → Result (Unit {0}) CardRefusal

@@ -10,7 +10,7 @@ ghost use Rattle.coding.specs.Bits.{octetBits};
 ghost use Rattle.coding.specs.Crc.{crc8 as crc};
 ghost use Rattle.card.specs.Fields.{keepsFirstOctet};
 ghost use Rattle.card.specs.Life.{Lives};
-ghost use Rattle.card.specs.Card.{valueOf, valueIn, octetsIn, identifierOf, opened, blank};
+ghost use Rattle.card.specs.Card.{valueOf, onOk, identifierOf, opened, blank};
 use crate::card::Card;
 use crate::identifier::Identifier;
 use crate::refusal::CardRefusal;
@@ -19,7 +19,7 @@ use coding::crc8;
 impl Identifier {
     /// The identifier of nine octets, the check octet first.
     pub fn open(octets: &[u8]) -> Result<Identifier, CardRefusal>
-        ensures { λ r. ⌜ octetsIn r ≡ identifierOf (now (octets .entry)) ⌝ }
+        ensures { λ r. ⌜ onOk (λ d. d .octets) r ≡ identifierOf (now (octets .entry)) ⌝ }
     {
         let [check, rest @ ..] = octets else {
             return Err(CardRefusal::NotNineOctets);
@@ -89,7 +89,7 @@ impl Card {
     /// Opens a card by nine octets, the check octet first. Every field is missing; and whatever is done to the card from
     /// then on, each field is the last entry accepted since it was last cleared.
     pub fn open(octets: &[u8]) -> Result<Card, CardRefusal>
-        ensures card { λ r. ⌜ valueIn r ≡ opened (now (octets .entry)) ⌝ }
+        ensures card { λ r. ⌜ onOk valueOf r ≡ opened (now (octets .entry)) ⌝ }
         ensures lives { λ _. ⌜ Lives (now (octets .entry)) ⌝ }
     {
         Ok(Card::blank(Identifier::open(octets)?))

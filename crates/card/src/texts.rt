@@ -1,7 +1,7 @@
 //! Making and reading a telephone and a message.
 
 ghost use mathlib.Core.Path.{_≡_};
-ghost use Rattle.card.specs.Card.{symbolsOf, symbolsIn, octetsOf, messageIn, telephoneAnswer, messageAnswer, whereAccepted};
+ghost use Rattle.card.specs.Card.{symbolsOf, octetsOf, onOk, telephoneAnswer, messageAnswer};
 use crate::buffer::put;
 use crate::checking::check_message;
 use crate::checking::check_telephone;
@@ -12,7 +12,7 @@ use crate::refusal::CardRefusal;
 impl Telephone {
     /// The telephone of these symbols, each an octet read as a character.
     pub fn new(symbols: &[u8]) -> Result<Telephone, CardRefusal>
-        ensures { λ r. ⌜ symbolsIn r ≡ whereAccepted (now (symbols .entry)) (telephoneAnswer (now (symbols .entry))) ⌝ }
+        ensures { λ r. ⌜ onOk symbolsOf r ≡ onOk (λ _. now (symbols .entry)) (telephoneAnswer (now (symbols .entry))) ⌝ }
     {
         check_telephone(symbols)?;
         let mut room = [0; 18];
@@ -31,7 +31,7 @@ impl Telephone {
 impl Message {
     /// The message of these octets.
     pub fn new(octets: &[u8]) -> Result<Message, CardRefusal>
-        ensures { λ r. ⌜ messageIn r ≡ whereAccepted (now (octets .entry)) (messageAnswer (now (octets .entry))) ⌝ }
+        ensures { λ r. ⌜ onOk octetsOf r ≡ onOk (λ _. now (octets .entry)) (messageAnswer (now (octets .entry))) ⌝ }
     {
         check_message(octets)?;
         let mut room = [0; 24];

@@ -1,2 +1,3 @@
 pub mod Regrouped
+pub mod LaidOut
 pub mod TakingApart

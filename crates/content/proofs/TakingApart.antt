@@ -4,21 +4,31 @@ use mathlib.Core.Bool.{Bool, true, false, cond, _&&_}
 use mathlib.Core.List.{List, [], _∷_, _++_, map}
 use mathlib.Core.Logic.{_↔_}
 use Prim.Native.Nat.{ℕ, zero, suc, _+_, _-_, _*_, _/_, _%_, _^_, _<_, _≤_}
+use native.Mathlib.Nat.{div-add-mod'}
 use native.Mathlib.Omega.{arith}
 use lib.Arith.{digits-div, digits-mod}
 use lib.Dec.{eqb, leb, lit<}
-use lib.ListN.{length, getD, replicate}
+use lib.ListN.{length, getD, take, drop, replicate}
+use lib.Pow.{pow-mono}
+use Rattle.std.specs.Results.{okPart}
+use Rattle.std.specs.declared.result.Result.{Result}
+use Rattle.std.specs.declared.result.Result.the-variants.{Ok, Err}
 use Rattle.std.specs.declared.option.Option.{Option}
 use Rattle.std.specs.declared.option.Option.the-variants.{Some, None}
 use Rattle.std.specs.shelf.Lists.{All}
-use Rattle.std.proofs.shelf.Lists.{length-map, length-append, length-replicate}
+use Rattle.std.proofs.shelf.Lists.{length-take, length-map, length-append, length-replicate}
 use Rattle.std.proofs.shelf.Elements.{all-map, all-weaker, all-append}
-use Rattle.std.proofs.shelf.Tests.{eq-eqb, ne-eqb, eqb-true, and-parts, and-from, leb-true, cond-true, cond-false, cases-bool}
+use Rattle.std.proofs.shelf.Tests.{eq-eqb, ne-eqb, eqb-true, and-parts, and-from, leb-true, and-right, cond-true, cond-false}
 use Rattle.std.proofs.shelf.Ways.{tells}
+use Rattle.coding.specs.Bits.{areBits, number}
 use Rattle.coding.specs.Distance.{distance}
+use Rattle.coding.proofs.Words.{bits-take, bits-drop}
+use Rattle.coding.proofs.Numbers.{number-below}
 use Rattle.coding.proofs.Distances.{distance-self, distance-zero}
 use Rattle.card.specs.Fields.{each, lengthWithin, isCoordinate, isLatitude, isLongitude, isSymbol, extensionInside, isTelephone, isPrinting, isMessage}
+use Rattle.card.specs.Card.{onOk}
 use Rattle.card.specs.declared.fields.Coordinate.{Coordinate}
+use Rattle.card.specs.declared.refusal.CardRefusal.{CardRefusal}
 use Rattle.content.specs.Groups.{groupBits, groups}
 use Rattle.content.specs.Kind.{Kind, takenApart, TakesApart}
 use Rattle.content.specs.Kinds.{coordinateKind, latitudeKind, longitudeKind, Lettering, laidOut, beforePadding, letteredKind, telephoneLettering, messageLettering, telephoneKind, messageKind, KindsTakeApart}
@@ -173,3 +183,65 @@ kinds = record {
   telephone = takes-apart telephoneKind telephone-back;
   message = takes-apart messageKind message-back;
 }
+
+-- a word always is the word of the coordinate that it would be, so that only the rule on coordinates is left to ask
+pub coordinate-apart : (lawful : Coordinate → Bool) (n w : ℕ)
+    → takenApart (coordinateKind lawful n) (w ∷ []) ≡ cond (lawful (coordinateKind lawful n .value (w ∷ []))) (Some (coordinateKind lawful n .value (w ∷ []))) None
+unfolding takenApart
+coordinate-apart lawful n w =
+    let whole : w / 2 ^ n / 10000 * 10000 + w / 2 ^ n % 10000 ≡ w / 2 ^ n = div-add-mod' (w / 2 ^ n) 10000 in
+    let same : (w / 2 ^ n / 10000 * 10000 + w / 2 ^ n % 10000) * 2 ^ n + w % 2 ^ n ≡ w = ap (λ (m : ℕ). m * 2 ^ n + w % 2 ^ n) whole ∙ div-add-mod' w (2 ^ n) in
+    let d : distance (coordinateKind lawful n .words (coordinateKind lawful n .value (w ∷ []))) (w ∷ []) ≡ 0 = ap (λ (x : ℕ). distance (x ∷ []) (w ∷ [])) same ∙ distance-self (w ∷ []) in
+    go (lawful (coordinateKind lawful n .value (w ∷ []))) (eqb (distance (coordinateKind lawful n .words (coordinateKind lawful n .value (w ∷ []))) (w ∷ [])) 0) (eq-eqb _ 0 d)
+  where
+    go : (b e : Bool) → e ≡ true → cond (b && e) (Some (coordinateKind lawful n .value (w ∷ []))) None ≡ cond b (Some (coordinateKind lawful n .value (w ∷ []))) None
+    go true true h = refl
+    go true false h = let z : _≡_ {A = ℕ} 0 1 = cc in absurd (omega arith)
+    go false e h = refl
+
+-- words taken apart step by step: the value that they would have is not lawful, has these very words, or has others
+module _ {V : Type 0} (k : Kind V) (ws : List ℕ) where
+  pub apart-unlawful : k .lawful (k .value ws) ≡ false → takenApart k ws ≡ None
+  unfolding takenApart
+  apart-unlawful h = cond-false _ (Some (k .value ws)) None (ap (λ (b : Bool). b && eqb (distance (k .words (k .value ws)) ws) 0) h)
+
+  pub apart-same : (v : V) → v ≡ k .value ws → k .lawful v ≡ true → k .words v ≡ ws → Some v ≡ takenApart k ws
+  unfolding takenApart
+  apart-same v e l w =
+      let d : distance (k .words (k .value ws)) ws ≡ 0 = ap (λ (x : List ℕ). distance x ws) (ap (k .words) (sym e) ∙ w) ∙ distance-self ws in
+      ap Some e ∙ sym (cond-true _ (Some (k .value ws)) None (and-from _ _ (ap (k .lawful) (sym e) ∙ l) (eq-eqb _ 0 d)))
+
+  pub apart-other : (v : V) → v ≡ k .value ws → (k .words v ≡ ws → ⊥) → takenApart k ws ≡ None
+  unfolding takenApart
+  apart-other v e n =
+      let other : eqb (distance (k .words (k .value ws)) ws) 0 ≡ false = ne-eqb _ 0 (λ z. n (ap (k .words) e ∙ distance-zero (k .words (k .value ws)) ws z)) in
+      cond-false _ (Some (k .value ws)) None (and-right (k .lawful (k .value ws)) (eqb (distance (k .words (k .value ws)) ws) 0) other)
+
+-- a text that was handed to a maker, which answers by whether it is lawful
+module _ {T : Type 0} (seen : T → List ℕ) (t : List ℕ) (answer : Result (Unit {0}) CardRefusal) (r : Result T CardRefusal) (e : onOk seen r ≡ onOk (λ _. t) answer) where
+  pub made-is : (v : T) → okPart r ≡ Some v → seen v ≡ t
+  made-is v h = go r answer e h
+    where
+      go : (r : Result T CardRefusal) (a : Result (Unit {0}) CardRefusal) → onOk seen r ≡ onOk (λ _. t) a → okPart r ≡ Some v → seen v ≡ t
+      go (Ok x) (Ok u) e h = let p : x ≡ v = cc in let q : seen x ≡ t = cc in ap seen (sym p) ∙ q
+      go (Ok x) (Err f) e h = let z : _≡_ {A = ℕ} 0 1 = cc in absurd (omega arith)
+      go (Err f) a e h = let z : _≡_ {A = ℕ} 0 1 = cc in absurd (omega arith)
+
+  pub made-none : (lawful : Bool) → (lawful ≡ true → answer ≡ Ok tt) → okPart r ≡ None → lawful ≡ false
+  made-none lawful held h = go lawful r answer e h held
+    where
+      go : (l : Bool) (r : Result T CardRefusal) (a : Result (Unit {0}) CardRefusal) → onOk seen r ≡ onOk (λ _. t) a → okPart r ≡ None → (l ≡ true → a ≡ Ok tt) → l ≡ false
+      go false r a e h held = refl
+      go true (Ok x) a e h held = let z : _≡_ {A = ℕ} 0 1 = cc in absurd (omega arith)
+      go true (Err f) (Ok u) e h held = let z : _≡_ {A = ℕ} 0 1 = cc in absurd (omega arith)
+      go true (Err f) (Err g) e h held = let q = held refl in let z : _≡_ {A = ℕ} 0 1 = cc in absurd (omega arith)
+
+-- a group of w bits is a number below 2^w
+pub groups-below : (w n : ℕ) (bs : List ℕ) → areBits bs ≡ true → All (λ g. g < 2 ^ w) (groups w n bs)
+unfolding groups
+groups-below w zero bs b = tt
+groups-below w (suc n) bs b =
+    let short : length (take w bs) ≤ w = omega (arith, length-take w bs) in
+    let below : number (take w bs) < 2 ^ length (take w bs) = number-below (take w bs) (bits-take w bs b) in
+    let more : 2 ^ length (take w bs) ≤ 2 ^ w = pow-mono short in
+    (omega arith, groups-below w n (drop w bs) (bits-drop w bs b))

@@ -1,5 +1,16 @@
 //! What a card is sent as: content words under Content IDs, in a sequence.
 
+mod coordinates;
 mod entry;
+mod groups;
+mod letters;
 
+pub use coordinates::latitude_of;
+pub use coordinates::latitude_word;
+pub use coordinates::longitude_of;
+pub use coordinates::longitude_word;
 pub use entry::Content;
+pub use letters::message_of;
+pub use letters::message_words;
+pub use letters::telephone_of;
+pub use letters::telephone_words;

@@ -4,7 +4,7 @@ use native.Mathlib.Omega.{arith}
 use lib.ListN.{take}
 use Rattle.std.specs.declared.result.Result.the-variants.{Ok}
 use Rattle.card.specs.Fields.{isMessage, each, isPrinting}
-use Rattle.card.specs.Card.{messageAnswer, whereAccepted}
+use Rattle.card.specs.Card.{messageAnswer, onOk}
 use Rattle.card.proofs.Accepted.{accepted-message, not-longer}
 use Rattle.coding.proofs.Overwriting.{front-of}
 use Rattle.card.proofs.fields.Message.new.Needs as need
@@ -22,4 +22,4 @@ returns c =
     let t = c .args .octets .now in
     let e : messageAnswer t ≡ Ok tt = sym (c .check-message .ensures) ∙ c .in-Continue-check-message .was tt in
     let f : take (c .put-len .result) (c .put-len .last .out) ≡ t = front-of t _ (c .put-len .last .out) (c .put-len .result) (c .put-len .ensures .ends) (c .put-len .ensures .text) in
-    ap Ok f ∙ sym (ap (whereAccepted t) e)
+    ap Ok f ∙ sym (ap (onOk (λ _. t)) e)

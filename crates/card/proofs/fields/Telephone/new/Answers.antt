@@ -4,7 +4,7 @@ use native.Mathlib.Omega.{arith}
 use lib.ListN.{take}
 use Rattle.std.specs.declared.result.Result.the-variants.{Ok}
 use Rattle.card.specs.Fields.{isTelephone, each, isSymbol, extensionInside}
-use Rattle.card.specs.Card.{telephoneAnswer, whereAccepted}
+use Rattle.card.specs.Card.{telephoneAnswer, onOk}
 use Rattle.card.proofs.Accepted.{accepted-telephone, not-longer}
 use Rattle.coding.proofs.Overwriting.{front-of}
 use Rattle.card.proofs.fields.Telephone.new.Needs as need
@@ -22,4 +22,4 @@ returns c =
     let t = c .args .symbols .now in
     let e : telephoneAnswer t ≡ Ok tt = sym (c .check-telephone .ensures) ∙ c .in-Continue-check-telephone .was tt in
     let f : take (c .put-len .result) (c .put-len .last .out) ≡ t = front-of t _ (c .put-len .last .out) (c .put-len .result) (c .put-len .ensures .ends) (c .put-len .ensures .text) in
-    ap Ok f ∙ sym (ap (whereAccepted t) e)
+    ap Ok f ∙ sym (ap (onOk (λ _. t)) e)

@@ -15,7 +15,7 @@ use Rattle.std.proofs.shelf.Ways.{tells}
 use Rattle.coding.specs.Bits.{octetBits}
 use Rattle.coding.specs.Crc.{crc8}
 use Rattle.card.specs.Fields.{keepsFirstOctet}
-use Rattle.card.specs.Card.{octetsIn, identifierOf}
+use Rattle.card.specs.Card.{onOk, identifierOf}
 use Rattle.card.specs.declared.identifier.Identifier.{Identifier}
 use Rattle.card.specs.declared.refusal.CardRefusal.{CardRefusal}
 use Rattle.card.specs.declared.refusal.CardRefusal.the-variants.{CheckOctet, FirstOctet}
@@ -39,7 +39,7 @@ right-check s l e =
     ∙ sym (cond-true _ _ (Err CheckOctet) (eq-eqb (getD s 0 0) (crc8 (octetBits (drop 1 s))) e))
     ∙ sym (cond-true _ _ _ (eq-eqb (length s) 9 l))
 
-octets-in : (o : Option Identifier) (e : CardRefusal) → octetsIn (okOr o e) ≡ okOr (mapped (λ d. d .octets) o) e
+octets-in : (o : Option Identifier) (e : CardRefusal) → onOk (λ d. d .octets) (okOr o e) ≡ okOr (mapped (λ d. d .octets) o) e
 octets-in None e = refl
 octets-in (Some d) e = refl
 
@@ -59,7 +59,7 @@ returns c =
     let l : length s ≡ 9 = omega arith in
     let r = rest-of s l in
     let d : c .copy-from-slice .last .self ≡ drop 1 s = c .copy-from-slice .ensures .after ∙ r in
-    ap octetsIn (c .ok-or .ensures .value)
+    ap (onOk (λ d. d .octets)) (c .ok-or .ensures .value)
     ∙ octets-in (c .new .result) FirstOctet
     ∙ ap (λ (o : Option (List ℕ)). okOr o FirstOctet) (c .new .ensures)
     ∙ ap (λ (z : List ℕ). okOr (cond (keepsFirstOctet z) (Some z) None) FirstOctet) d

@@ -1,0 +1,32 @@
+use mathlib.Core.Path.{_≡_, sym, ap, _∙_}
+use Prim.Native.Nat.{ℕ, _<_}
+use native.Mathlib.Omega.{arith}
+use lib.Dec.{lit≤}
+use lib.ListN.{take}
+use Rattle.std.proofs.shelf.Elements.{all-getD}
+use Rattle.content.specs.Kinds.{messageLettering}
+use Rattle.content.proofs.LaidOut.{read-none, read-more, read-stop, read-all}
+use Rattle.content.proofs.letters.message_octets.Needs as need
+
+pub loop-i-holds : need.loop-i-holds
+loop-i-holds c = read-none (messageLettering .character) 0 (c .args .groups .now) (c .args .out .now) (c .told-out ∙ sym (c .told-groups))
+
+pub group-octet-requires : need.group-octet-requires
+group-octet-requires c κs = all-getD (λ g. g < 128) (c .args .groups .now) (c .loop-i .i) 0 (omega arith) (c .pre)
+
+pub loop-i-again : need.loop-i-again
+loop-i-again c = read-more (messageLettering .character) 0 (c .args .groups .now) (c .loop-i .i) (c .group-octet .result) (c .loop-i .out) (omega arith) (c .if-group-eq0 .left) (c .group-octet .ensures) (c .loop-i .inv)
+
+pub returns-then-group-eq0 : need.returns-then-group-eq0
+returns-then-group-eq0 c = record {
+  within = omega arith;
+  text = read-stop (messageLettering .character) 0 (c .args .groups .now) (c .loop-i .i) (c .loop-i .out) (omega arith) (c .if-group-eq0 .taken) (c .loop-i .inv);
+}
+
+pub returns : need.returns
+returns c =
+    let n : c .loop-i .i ≡ 24 = omega arith in
+    record {
+      within = lit≤ tt;
+      text = ap (λ (i : ℕ). take i (c .loop-i .out)) (sym n) ∙ read-all (messageLettering .character) 0 (c .args .groups .now) (c .loop-i .i) (c .loop-i .out) (omega arith) (c .loop-i .inv);
+    }
