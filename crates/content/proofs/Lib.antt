@@ -1,3 +1,4 @@
 pub mod Regrouped
 pub mod LaidOut
 pub mod TakingApart
+pub mod Sequences

@@ -2,3 +2,4 @@ pub mod Groups
 pub mod Kind
 pub mod Kinds
 pub mod Sequence
+pub mod Entries
