@@ -8,9 +8,15 @@ use lib.Dec.{leb}
 use lib.ListN.{length}
 use Rattle.std.proofs.shelf.Tests.{and-parts, leb-true}
 use Rattle.std.specs.declared.result.Result.the-variants.{Ok, Err}
-use Rattle.card.specs.Fields.{each, lengthWithin, isSymbol, extensionInside, isTelephone, isPrinting, isMessage}
+use Rattle.card.specs.Fields.{each, lengthWithin, isSymbol, extensionInside, isTelephone, isPrinting, isMessage, missingOr}
 use Rattle.std.specs.Results.{andOther}
-use Rattle.card.specs.Card.{unless, firstFailing, telephoneAnswer, messageAnswer}
+use Rattle.std.specs.Options.{mapped}
+use Rattle.std.specs.declared.option.Option.{Option}
+use Rattle.std.specs.declared.option.Option.the-variants.{Some, None}
+use Rattle.card.specs.Card.{Lawful, valueOf, symbolsOf, octetsOf, unless, firstFailing, telephoneAnswer, messageAnswer}
+use Rattle.card.specs.declared.card.Card.{Card}
+use Rattle.card.specs.declared.fields.Telephone.{Telephone}
+use Rattle.card.specs.declared.fields.Message.{Message}
 use Rattle.card.specs.declared.refusal.CardRefusal.{CardRefusal}
 use Rattle.card.specs.declared.refusal.CardRefusal.the-variants.{TelephoneLength, TelephoneSymbol, TelephoneExtension, MessageLength, MessageOctet}
 
@@ -52,3 +58,21 @@ not-longer most t rest h =
     let p = and-parts (lengthWithin most t) rest h in
     let q = and-parts (leb 1 (length t)) (leb (length t) most) (p .0) in
     leb-true (length t) most (q .1)
+
+-- every card keeps its rules
+pub card-lawful : (c : Card) → Lawful (valueOf c)
+card-lawful c = record {
+  identifier = c .identifier .lawful;
+  latitude = c .«latitude_lawful»;
+  longitude = c .«longitude_lawful»;
+  telephone = lawful-telephone (c .telephone);
+  message = lawful-message (c .message);
+}
+  where
+    lawful-telephone : (o : Option Telephone) → missingOr isTelephone (mapped symbolsOf o) ≡ true
+    lawful-telephone None = refl
+    lawful-telephone (Some t) = t .lawful
+
+    lawful-message : (o : Option Message) → missingOr isMessage (mapped octetsOf o) ≡ true
+    lawful-message None = refl
+    lawful-message (Some m) = m .lawful

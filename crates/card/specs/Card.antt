@@ -1,5 +1,6 @@
 -- A card as plain data, and what opening, entering and clearing make of it.
-use mathlib.Core.Bool.{Bool, cond, _&&_}
+use mathlib.Core.Path.{_≡_}
+use mathlib.Core.Bool.{Bool, true, cond, _&&_}
 use mathlib.Core.List.{List, [], _∷_}
 use Prim.Native.Nat.{ℕ, suc}
 use lib.Dec.{eqb, leb}
@@ -12,7 +13,7 @@ use Rattle.std.specs.declared.result.Result.{Result}
 use Rattle.std.specs.declared.result.Result.the-variants.{Ok, Err}
 use Rattle.coding.specs.Bits.{octetBits}
 use Rattle.coding.specs.Crc.{crc8}
-use Rattle.card.specs.Fields.{each, lengthWithin, keepsFirstOctet, isLatitude, isLongitude, isSymbol, extensionInside, isPrinting}
+use Rattle.card.specs.Fields.{each, lengthWithin, keepsFirstOctet, isLatitude, isLongitude, isSymbol, extensionInside, isTelephone, isPrinting, isMessage, missingOr}
 use Rattle.card.specs.declared.card.Card.{Card}
 use Rattle.card.specs.declared.fields.Coordinate.{Coordinate}
 use Rattle.card.specs.declared.fields.Telephone.{Telephone}
@@ -42,6 +43,14 @@ valueOf c = record {
   telephone = mapped symbolsOf (c .telephone);
   message = mapped octetsOf (c .message);
 }
+
+-- a value that keeps the rules of identifier and fields, as every card's does
+pub record Lawful (c : CardValue) : Type 0 where
+  pub identifier : keepsFirstOctet (c .identifier) ≡ true
+  pub latitude : missingOr isLatitude (c .latitude) ≡ true
+  pub longitude : missingOr isLongitude (c .longitude) ≡ true
+  pub telephone : missingOr isTelephone (c .telephone) ≡ true
+  pub message : missingOr isMessage (c .message) ≡ true
 
 -- what an answer holds where it accepts, seen by f
 abbrev pub onOk : {T U E : Type 0} → (T → U) → Result T E → Result U E

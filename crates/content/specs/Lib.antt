@@ -3,3 +3,4 @@ pub mod Kind
 pub mod Kinds
 pub mod Sequence
 pub mod Entries
+pub mod Laws

@@ -8,6 +8,7 @@ ghost use Rattle.std.specs.Options.{mapped};
 ghost use Rattle.card.specs.Card.{valueOf, symbolsOf, octetsOf};
 ghost use Rattle.content.specs.Kinds.{latitudeKind, longitudeKind, telephoneKind, messageKind};
 ghost use Rattle.content.specs.Sequence.{numbered, setOf, evened, sequence as sequenceOf};
+ghost use Rattle.content.specs.Laws.{SequenceLaws};
 ghost use Rattle.content.specs.Entries.{entriesOf};
 use crate::coordinates::latitude_word;
 use crate::coordinates::longitude_word;
@@ -21,7 +22,10 @@ use card::Message;
 use card::Telephone;
 
 /// ID 0, which begins the sequence and evens its count.
-const MARKER: Content = Content { id: 0, word: 0x000001 };
+const MARKER: Content = Content {
+    id: 0,
+    word: 0x000001,
+};
 
 impl Sequence {
     /// One entry more.
@@ -94,10 +98,15 @@ impl Sequence {
 
 impl Sequence {
     /// The sequence of a card: ID 0, the sets of the fields that are there, and a second ID 0 where the count would be odd.
+    /// Its IDs rise, and the card's fields are read back from it.
     pub fn of(card: &Card) -> Sequence
-        ensures { λ r. ⌜ entriesOf r ≡ sequenceOf (valueOf (now (card .entry))) ⌝ }
+        ensures entries { λ r. ⌜ entriesOf r ≡ sequenceOf (valueOf (now (card .entry))) ⌝ }
+        ensures laws { λ _. ⌜ SequenceLaws (valueOf (now (card .entry))) ⌝ }
     {
-        let mut sequence = Sequence { entries: [MARKER; 14], len: 1 };
+        let mut sequence = Sequence {
+            entries: [MARKER; 14],
+            len: 1,
+        };
         sequence.push_latitude(card.latitude());
         sequence.push_longitude(card.longitude());
         sequence.push_telephone(card.telephone());

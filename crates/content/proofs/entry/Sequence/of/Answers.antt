@@ -6,6 +6,8 @@ use Rattle.card.specs.Card.{valueOf, symbolsOf, octetsOf}
 use Rattle.content.specs.Kinds.{latitudeKind, longitudeKind, telephoneKind, messageKind}
 use Rattle.content.specs.Sequence.{setOf, marker, evened}
 use Rattle.content.specs.declared.entry.Content.{Content}
+use Rattle.card.proofs.Accepted.{card-lawful}
+use Rattle.content.proofs.ReadBack.{sequence-laws}
 use Rattle.content.proofs.entry.Sequence.of.Needs as need
 
 regroup : (m a b c d : List Content) → (((m ++ a) ++ b) ++ c) ++ d ≡ m ++ (a ++ (b ++ (c ++ d)))
@@ -23,4 +25,7 @@ returns c =
     let two = c .push-longitude .ensures .entries ∙ ap₂ _++_ one lon in
     let three = c .push-telephone .ensures .entries ∙ ap₂ _++_ two tel in
     let four = c .push-message .ensures .entries ∙ ap₂ _++_ three msg in
-    c .even .ensures ∙ ap evened (four ∙ regroup (marker ∷ []) (setOf latitudeKind 1 (v .latitude)) (setOf longitudeKind 2 (v .longitude)) (setOf telephoneKind 3 (v .telephone)) (setOf messageKind 6 (v .message)))
+    record {
+      entries = c .even .ensures ∙ ap evened (four ∙ regroup (marker ∷ []) (setOf latitudeKind 1 (v .latitude)) (setOf longitudeKind 2 (v .longitude)) (setOf telephoneKind 3 (v .telephone)) (setOf messageKind 6 (v .message)));
+      laws = sequence-laws v (card-lawful k);
+    }

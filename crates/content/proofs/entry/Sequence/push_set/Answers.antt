@@ -22,12 +22,14 @@ loop-word-again c =
     let first = c .args .first in
     let ws = c .args .words .now in
     let front = entriesOf (c .args .self .now) in
-    let inv = c .loop-word .inv in
-    (omega (arith, inv .0), omega (arith, inv .1, c .push .ensures .len),
-     c .push .ensures .entries
-      ∙ ap₂ (λ (a : List Content) (n : ℕ). a ++ (record { id = n; word = getD ws i 0 } ∷ [])) (inv .2) (inv .0)
-      ∙ append-assoc front (numbered first (take i ws)) (record { id = first + i; word = getD ws i 0 } ∷ [])
-      ∙ ap (λ (r : List Content). front ++ r) (numbered-more first ws i (omega arith)))
+    let inv = c .loop-word .inv in (
+      omega (arith, inv .0),
+      omega (arith, inv .1, c .push .ensures .len),
+      c .push .ensures .entries
+          ∙ ap₂ (λ (a : List Content) (n : ℕ). a ++ (record { id = n; word = getD ws i 0 } ∷ [])) (inv .2) (inv .0)
+          ∙ append-assoc front (numbered first (take i ws)) (record { id = first + i; word = getD ws i 0 } ∷ [])
+          ∙ ap (λ (r : List Content). front ++ r) (numbered-more first ws i (omega arith)),
+    )
 
 pub returns : need.returns
 returns c =
