@@ -7,7 +7,7 @@ ghost use Prim.Native.Nat.{ℕ, _+_, _*_, _/_, _%_, _<_, _≤_};
 ghost use Rattle.std.specs.declared.option.Option.the-variants.{Some, None};
 ghost use Rattle.card.specs.Card.{coordinate};
 ghost use Rattle.card.specs.Fields.{isCoordinate};
-ghost use Rattle.content.specs.Kind.{takenApart};
+ghost use Rattle.content.specs.Kind.{takenApart, TakesApart};
 ghost use Rattle.content.specs.Kinds.{latitudeKind, longitudeKind};
 use card::Coordinate;
 
@@ -42,14 +42,16 @@ fn number_of(p: Coordinate) -> u32
 
 /// The latitude that has this word, if there is one.
 pub fn latitude_of(word: u32) -> Option<Coordinate>
-    ensures { λ r. ⌜ r ≡ takenApart latitudeKind (word ∷ []) ⌝ }
+    ensures value { λ r. ⌜ r ≡ takenApart latitudeKind (word ∷ []) ⌝ }
+    ensures rule { λ _. ⌜ TakesApart latitudeKind ⌝ }
 {
     coordinate_of(word, LATITUDE_SCALE, MOST_LATITUDE)
 }
 
 /// The longitude that has this word, if there is one.
 pub fn longitude_of(word: u32) -> Option<Coordinate>
-    ensures { λ r. ⌜ r ≡ takenApart longitudeKind (word ∷ []) ⌝ }
+    ensures value { λ r. ⌜ r ≡ takenApart longitudeKind (word ∷ []) ⌝ }
+    ensures rule { λ _. ⌜ TakesApart longitudeKind ⌝ }
 {
     coordinate_of(word, LONGITUDE_SCALE, MOST_LONGITUDE)
 }

@@ -9,7 +9,7 @@ ghost use Rattle.std.specs.Options.{mapped};
 ghost use Rattle.std.specs.shelf.Lists.{All};
 ghost use Rattle.card.specs.Card.{symbolsOf, octetsOf};
 ghost use Rattle.card.specs.Fields.{isSymbol, symbolCode, isTelephone};
-ghost use Rattle.content.specs.Kind.{takenApart};
+ghost use Rattle.content.specs.Kind.{takenApart, TakesApart};
 ghost use Rattle.content.specs.Kinds.{telephoneKind, messageKind, telephoneLettering, messageLettering, laidOut, beforePadding};
 use crate::groups::read_groups;
 use crate::groups::write_groups;
@@ -77,7 +77,8 @@ fn message_groups(octets: &[u8]) -> [u32; 24]
 
 /// The telephone that has these words, if there is one.
 pub fn telephone_of(words: &[u32; 3]) -> Option<Telephone>
-    ensures { λ r. ⌜ mapped symbolsOf r ≡ takenApart telephoneKind (now (words .entry)) ⌝ }
+    ensures value { λ r. ⌜ mapped symbolsOf r ≡ takenApart telephoneKind (now (words .entry)) ⌝ }
+    ensures rule { λ _. ⌜ TakesApart telephoneKind ⌝ }
 {
     let mut bits = [0; 72];
     write_groups(words, 24, &mut bits);
@@ -122,7 +123,8 @@ fn group_symbol(group: u32) -> u8
 
 /// The message that has these words, if there is one.
 pub fn message_of(words: &[u32; 7]) -> Option<Message>
-    ensures { λ r. ⌜ mapped octetsOf r ≡ takenApart messageKind (now (words .entry)) ⌝ }
+    ensures value { λ r. ⌜ mapped octetsOf r ≡ takenApart messageKind (now (words .entry)) ⌝ }
+    ensures rule { λ _. ⌜ TakesApart messageKind ⌝ }
 {
     let mut bits = [0; 168];
     write_groups(words, 24, &mut bits);
@@ -154,9 +156,9 @@ fn message_octets(groups: &[u32; 24], out: &mut [u8; 24]) -> usize
 }
 
 /// The octet of a group.
-fn group_octet(group: u32) -> u8
-    requires { ⌜ group < 128 ⌝ }
-    ensures { λ r. ⌜ r ≡ messageLettering .character group ⌝ }
+fn group_octet(character: u32) -> u8
+    requires { ⌜ character < 128 ⌝ }
+    ensures { λ r. ⌜ r ≡ messageLettering .character character ⌝ }
 {
-    group as u8
+    character as u8
 }

@@ -2,14 +2,14 @@
 
 ghost use mathlib.Core.Path.{_≡_};
 ghost use mathlib.Core.List.{[], _∷_, _++_};
-ghost use Prim.Native.Nat.{ℕ, _+_, _/_, _<_, _≤_};
+ghost use Prim.Native.Nat.{ℕ, _+_, _<_, _≤_};
 ghost use lib.ListN.{length};
 ghost use Rattle.std.specs.Options.{mapped};
 ghost use Rattle.card.specs.Card.{valueOf, symbolsOf, octetsOf};
 ghost use Rattle.content.specs.Kinds.{latitudeKind, longitudeKind, telephoneKind, messageKind};
-ghost use Rattle.content.specs.Sequence.{numbered, setOf, evened, sequence as sequenceOf};
+ghost use Rattle.content.specs.Sequence.{numbered, setOf, evened, sequence as sequenceOf, roundLength};
 ghost use Rattle.content.specs.Laws.{SequenceLaws};
-ghost use Rattle.content.specs.Entries.{entriesOf};
+ghost use Rattle.content.specs.Entries.{entriesOf, framesOf};
 use crate::coordinates::latitude_word;
 use crate::coordinates::longitude_word;
 use crate::entry::Content;
@@ -101,6 +101,7 @@ impl Sequence {
     /// Its IDs rise, and the card's fields are read back from it.
     pub fn of(card: &Card) -> Sequence
         ensures entries { λ r. ⌜ entriesOf r ≡ sequenceOf (valueOf (now (card .entry))) ⌝ }
+        ensures frames { λ r. ⌜ framesOf r ≡ roundLength (valueOf (now (card .entry))) ⌝ }
         ensures laws { λ _. ⌜ SequenceLaws (valueOf (now (card .entry))) ⌝ }
     {
         let mut sequence = Sequence {
@@ -134,7 +135,7 @@ impl Sequence {
 
     /// The number of frames, each of two entries.
     pub fn frames(&self) -> usize
-        ensures { λ r. ⌜ r ≡ length (entriesOf (now (self .entry))) / 2 ⌝ }
+        ensures { λ r. ⌜ r ≡ framesOf (now (self .entry)) ⌝ }
     {
         self.len / 2
     }

@@ -19,7 +19,7 @@ use Rattle.card.proofs.Accepted.{message-accepted}
 use Rattle.content.specs.Groups.{groupBits, groups}
 use Rattle.content.specs.Kinds.{messageKind, messageLettering, beforePadding}
 use Rattle.content.proofs.Regrouped.{groupBits-bits}
-use Rattle.content.proofs.TakingApart.{apart-unlawful, apart-same, apart-other, made-is, made-none, groups-below}
+use Rattle.content.proofs.TakingApart.{apart-unlawful, apart-same, apart-other, made-is, made-none, groups-below, kinds}
 use Rattle.content.proofs.letters.message_of.Needs as need
 
 pub read-groups-requires : need.read-groups-requires
@@ -41,7 +41,7 @@ returns-in-Break-message c =
     let e : v ≡ messageKind .value (c .args .words .now) = text-is (c .message-octets-len .result) (c .args .words .now) (c .message-octets-len .last .out) (c .read-groups .last .out) (c .write-groups .last .out) (c .message-octets-len .ensures .text) (c .read-groups .ensures) (c .write-groups .ensures) in
     let none : okPart (c .new .result) ≡ None = sym (c .ok .ensures .value) ∙ c .in-Break-message .was tt in
     let unlawful : isMessage v ≡ false = made-none octetsOf v (messageAnswer v) (c .new .result) (c .new .ensures) (isMessage v) (message-accepted v) none in
-    ap (mapped octetsOf) (c .from-residual .ensures) ∙ sym (apart-unlawful messageKind (c .args .words .now) (ap isMessage (sym e) ∙ unlawful))
+    record { value = ap (mapped octetsOf) (c .from-residual .ensures) ∙ sym (apart-unlawful messageKind (c .args .words .now) (ap isMessage (sym e) ∙ unlawful)); rule = kinds .message }
 
 pub returns-then-eq : need.returns-then-eq
 returns-then-eq c =
@@ -50,7 +50,7 @@ returns-then-eq c =
     let e : v ≡ messageKind .value (c .args .words .now) = text-is (c .message-octets-len .result) (c .args .words .now) (c .message-octets-len .last .out) (c .read-groups .last .out) (c .write-groups .last .out) (c .message-octets-len .ensures .text) (c .read-groups .ensures) (c .write-groups .ensures) in
     let s : octetsOf t ≡ v = made-is octetsOf v (messageAnswer v) (c .new .result) (c .new .ensures) t (sym (c .ok .ensures .value) ∙ c .in-Continue-message .was tt) in
     let d = matches-decides (c .message-words .result) (c .args .words .now) (c .eq .result) (c .eq .ensures) in
-    apart-same messageKind (c .args .words .now) (octetsOf t) (s ∙ e) (t .lawful) (sym (c .message-words .ensures) ∙ d .0 (c .if-eq .taken))
+    record { value = apart-same messageKind (c .args .words .now) (octetsOf t) (s ∙ e) (t .lawful) (sym (c .message-words .ensures) ∙ d .0 (c .if-eq .taken)); rule = kinds .message }
 
 pub returns-else-eq : need.returns-else-eq
 returns-else-eq c =
@@ -59,4 +59,4 @@ returns-else-eq c =
     let e : v ≡ messageKind .value (c .args .words .now) = text-is (c .message-octets-len .result) (c .args .words .now) (c .message-octets-len .last .out) (c .read-groups .last .out) (c .write-groups .last .out) (c .message-octets-len .ensures .text) (c .read-groups .ensures) (c .write-groups .ensures) in
     let s : octetsOf t ≡ v = made-is octetsOf v (messageAnswer v) (c .new .result) (c .new .ensures) t (sym (c .ok .ensures .value) ∙ c .in-Continue-message .was tt) in
     let d = matches-decides (c .message-words .result) (c .args .words .now) (c .eq .result) (c .eq .ensures) in
-    sym (apart-other messageKind (c .args .words .now) (octetsOf t) (s ∙ e) (λ w. both-ways (c .eq .result) (c .if-eq .left) (d .1 (c .message-words .ensures ∙ w))))
+    record { value = sym (apart-other messageKind (c .args .words .now) (octetsOf t) (s ∙ e) (λ w. both-ways (c .eq .result) (c .if-eq .left) (d .1 (c .message-words .ensures ∙ w)))); rule = kinds .message }

@@ -19,7 +19,7 @@ use Rattle.card.proofs.Accepted.{telephone-accepted}
 use Rattle.content.specs.Groups.{groupBits, groups}
 use Rattle.content.specs.Kinds.{telephoneKind, telephoneLettering, beforePadding}
 use Rattle.content.proofs.Regrouped.{groupBits-bits}
-use Rattle.content.proofs.TakingApart.{apart-unlawful, apart-same, apart-other, made-is, made-none, groups-below}
+use Rattle.content.proofs.TakingApart.{apart-unlawful, apart-same, apart-other, made-is, made-none, groups-below, kinds}
 use Rattle.content.proofs.letters.telephone_of.Needs as need
 
 pub read-groups-requires : need.read-groups-requires
@@ -41,7 +41,7 @@ returns-in-Break-telephone c =
     let e : v ≡ telephoneKind .value (c .args .words .now) = text-is (c .telephone-symbols-len .result) (c .args .words .now) (c .telephone-symbols-len .last .out) (c .read-groups .last .out) (c .write-groups .last .out) (c .telephone-symbols-len .ensures .text) (c .read-groups .ensures) (c .write-groups .ensures) in
     let none : okPart (c .new .result) ≡ None = sym (c .ok .ensures .value) ∙ c .in-Break-telephone .was tt in
     let unlawful : isTelephone v ≡ false = made-none symbolsOf v (telephoneAnswer v) (c .new .result) (c .new .ensures) (isTelephone v) (telephone-accepted v) none in
-    ap (mapped symbolsOf) (c .from-residual .ensures) ∙ sym (apart-unlawful telephoneKind (c .args .words .now) (ap isTelephone (sym e) ∙ unlawful))
+    record { value = ap (mapped symbolsOf) (c .from-residual .ensures) ∙ sym (apart-unlawful telephoneKind (c .args .words .now) (ap isTelephone (sym e) ∙ unlawful)); rule = kinds .telephone }
 
 pub returns-then-eq : need.returns-then-eq
 returns-then-eq c =
@@ -50,7 +50,7 @@ returns-then-eq c =
     let e : v ≡ telephoneKind .value (c .args .words .now) = text-is (c .telephone-symbols-len .result) (c .args .words .now) (c .telephone-symbols-len .last .out) (c .read-groups .last .out) (c .write-groups .last .out) (c .telephone-symbols-len .ensures .text) (c .read-groups .ensures) (c .write-groups .ensures) in
     let s : symbolsOf t ≡ v = made-is symbolsOf v (telephoneAnswer v) (c .new .result) (c .new .ensures) t (sym (c .ok .ensures .value) ∙ c .in-Continue-telephone .was tt) in
     let d = matches-decides (c .telephone-words .result) (c .args .words .now) (c .eq .result) (c .eq .ensures) in
-    apart-same telephoneKind (c .args .words .now) (symbolsOf t) (s ∙ e) (t .lawful) (sym (c .telephone-words .ensures) ∙ d .0 (c .if-eq .taken))
+    record { value = apart-same telephoneKind (c .args .words .now) (symbolsOf t) (s ∙ e) (t .lawful) (sym (c .telephone-words .ensures) ∙ d .0 (c .if-eq .taken)); rule = kinds .telephone }
 
 pub returns-else-eq : need.returns-else-eq
 returns-else-eq c =
@@ -59,4 +59,4 @@ returns-else-eq c =
     let e : v ≡ telephoneKind .value (c .args .words .now) = text-is (c .telephone-symbols-len .result) (c .args .words .now) (c .telephone-symbols-len .last .out) (c .read-groups .last .out) (c .write-groups .last .out) (c .telephone-symbols-len .ensures .text) (c .read-groups .ensures) (c .write-groups .ensures) in
     let s : symbolsOf t ≡ v = made-is symbolsOf v (telephoneAnswer v) (c .new .result) (c .new .ensures) t (sym (c .ok .ensures .value) ∙ c .in-Continue-telephone .was tt) in
     let d = matches-decides (c .telephone-words .result) (c .args .words .now) (c .eq .result) (c .eq .ensures) in
-    sym (apart-other telephoneKind (c .args .words .now) (symbolsOf t) (s ∙ e) (λ w. both-ways (c .eq .result) (c .if-eq .left) (d .1 (c .telephone-words .ensures ∙ w))))
+    record { value = sym (apart-other telephoneKind (c .args .words .now) (symbolsOf t) (s ∙ e) (λ w. both-ways (c .eq .result) (c .if-eq .left) (d .1 (c .telephone-words .ensures ∙ w)))); rule = kinds .telephone }
