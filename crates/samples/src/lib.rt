@@ -2,3 +2,5 @@
 
 #[cfg(test)]
 mod cards;
+#[cfg(test)]
+mod contents;
