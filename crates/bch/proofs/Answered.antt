@@ -1,21 +1,18 @@
 -- The decoder's answers are the search's.
-use mathlib.Core.Path.{_≡_, refl, sym, ap, ap₂, subst, _∙_}
+use mathlib.Core.Path.{_≡_, sym, ap, _∙_}
 use mathlib.Core.Logic.{⊎-elim}
-use mathlib.Core.Bool.{true, cond}
+use mathlib.Core.Bool.{true}
 use mathlib.Core.List.{List}
-use Prim.Native.Nat.{ℕ, _<_, _≤_}
+use Prim.Native.Nat.{ℕ, _≤_}
 use native.Mathlib.Nat.{eq-zero-or-pos}
 use native.Mathlib.Omega.{arith}
 use lib.ListN.{length}
-use Rattle.std.specs.declared.option.Option.{Option}
-use Rattle.std.specs.declared.option.Option.the-variants.{Some, None}
 use Rattle.std.specs.declared.result.Result.{Result}
 use Rattle.std.specs.declared.result.Result.the-variants.{Ok, Err}
 use Rattle.std.proofs.shelf.Tests.{cond-true}
 use Rattle.coding.specs.Bits.{areBits}
 use Rattle.coding.specs.Distance.{distance}
 use Rattle.coding.proofs.Distances.{distance-zero, distance-self}
-use Rattle.field.specs.Code.{Codeword}
 use Rattle.bch.specs.declared.word.CodeRefusal.{CodeRefusal}
 use Rattle.bch.specs.declared.word.CodeRefusal.the-variants.{NotBits, NoCodeword}
 use Rattle.bch.specs.declared.word.Corrected.{Corrected}

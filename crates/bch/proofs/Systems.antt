@@ -1,23 +1,23 @@
 -- The key equations as linear equations, and what their solution does to the received word.
-use mathlib.Core.Path.{_≡_, refl, sym, ap, ap₂, subst, _∙_}
-use mathlib.Core.Logic.{_⊎_, inl, inr, ⊎-elim}
-use mathlib.Core.Bool.{Bool, true, false, cond}
-use mathlib.Core.List.{List, [], _∷_, _++_}
+use mathlib.Core.Path.{_≡_, sym, ap, ap₂, subst, _∙_}
+use mathlib.Core.Logic.{⊎-elim}
+use mathlib.Core.Bool.{Bool, true, cond}
+use mathlib.Core.List.{List, [], _∷_}
 use Prim.Native.Nat.{ℕ, zero, suc, _+_, _-_, _%_, _<_, _≤_, min}
 use native.Mathlib.Nat.{mod-eq-of-lt, eq-or-lt-of-le, add-zero, add-suc, suc-add}
 use native.Mathlib.Numerals.{add-one}
 use native.Mathlib.Omega.{arith}
 use lib.Bits.{bitXor, xor-assoc, xor-comm, xor-zero-r}
 use lib.Dec.{lit<, eqb}
-use lib.Seq.{getD-set-same, getD-set-other, take-suc}
+use lib.Seq.{getD-set-same, getD-set-other}
 use lib.ListN.{length, getD, drop, take, set, length-take, length-drop}
 use Rattle.std.proofs.shelf.Tests.{cases-lt}
 use Rattle.std.proofs.shelf.Lists.{take-more, drop-all}
-use Rattle.coding.specs.Bits.{areBits, bits}
+use Rattle.coding.specs.Bits.{areBits}
 use Rattle.coding.specs.Distance.{distance}
 use Rattle.field.specs.Field.{byC, mul, exp, power, value}
 use Rattle.field.specs.Locator.{syndrome, recurrence, KeyEquations, isRoot, flipped, Received}
-use Rattle.field.proofs.Elements.{comm, mul-small, one-mul, zero-l, zero-r, exp-small, exp-next, exp-nought, power-small}
+use Rattle.field.proofs.Elements.{comm, one-mul, zero-l, exp-small, exp-next, exp-nought}
 use Rattle.field.proofs.Roots.{value-push}
 use Rattle.field.proofs.Locators.{value-small}
 use Rattle.field.proofs.Corrections.{solvable, corrects}

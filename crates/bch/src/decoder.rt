@@ -15,18 +15,17 @@ use field::times_c;
 use solver::solve;
 ghost use mathlib.Core.Path.{_≡_};
 ghost use mathlib.Core.Bool.{true, cond};
-ghost use mathlib.Core.List.{List, [], _∷_};
-ghost use Prim.Native.Nat.{ℕ, _+_, _-_, _^_, _<_, _≤_};
+ghost use mathlib.Core.List.{[], _∷_};
+ghost use Prim.Native.Nat.{ℕ, _+_, _-_, _<_, _≤_};
 ghost use lib.Dec.{eqb};
 ghost use lib.ListN.{length, getD, take};
 ghost use Rattle.std.specs.declared.option.Option.the-variants.{Some, None};
 ghost use Rattle.coding.specs.Bits.{areBits, bits, number as numberOf};
-ghost use Rattle.coding.specs.Distance.{distance as apart};
 ghost use Rattle.field.specs.Field.{value};
 ghost use Rattle.field.specs.Locator.{flipped as flippedAt, isRoot};
 ghost use Rattle.bch.specs.Nearest.{nearest, Near, Finds};
 ghost use Rattle.bch.specs.Codec.{found, decoded};
-ghost use Rattle.bch.specs.Search.{leftover, Syndromes, Equation};
+ghost use Rattle.bch.specs.Search.{leftover, Syndromes, Equation, Corrects, NoneAt};
 
 /// The codeword within six places of 111 received bits, and in how many places they differ from it.
 pub fn decode(received: &[u8; 111]) -> Result<Corrected, CodeRefusal>
@@ -66,8 +65,8 @@ fn attempt(received: &[u8; 111], s: &[u8; 13], v: usize) -> Option<Corrected>
     requires bits { ⌜ areBits (now received) ≡ true ⌝ }
     requires syndromes { ⌜ Syndromes (leftover (now received)) (now s) ⌝ }
     requires few { ⌜ v ≤ 6 ⌝ }
-    ensures some { λ r. ⌜ ((a : Corrected) → r ≡ Some a → Near (now (received .entry)) (a .codeword) × (a .places ≡ apart (now (received .entry)) (a .codeword))) ⌝ }
-    ensures none { λ r. ⌜ (r ≡ None → (w : List ℕ) → Near (now (received .entry)) w → v ≡ apart (now (received .entry)) w → ⊥) ⌝ }
+    ensures some { λ r. ⌜ ((a : Corrected) → r ≡ Some a → Corrects (now (received .entry)) a) ⌝ }
+    ensures none { λ r. ⌜ (r ≡ None → NoneAt (now (received .entry)) v) ⌝ }
 {
     let locator = solve(&key_equations(s, v), v)?;
     accepted(received, &flipped(received, &locator, v))
@@ -76,7 +75,7 @@ fn attempt(received: &[u8; 111], s: &[u8; 13], v: usize) -> Option<Corrected>
 /// A word with its distance from the received word, if it is a codeword within six places.
 fn accepted(received: &[u8; 111], word: &[u8; 111]) -> Option<Corrected>
     requires { ⌜ areBits (now word) ≡ true ⌝ }
-    ensures some { λ r. ⌜ ((a : Corrected) → r ≡ Some a → Near (now (received .entry)) (a .codeword) × (a .places ≡ apart (now (received .entry)) (a .codeword))) ⌝ }
+    ensures some { λ r. ⌜ ((a : Corrected) → r ≡ Some a → Corrects (now (received .entry)) a) ⌝ }
     ensures none { λ r. ⌜ (r ≡ None → Near (now (received .entry)) (now (word .entry)) → ⊥) ⌝ }
 {
     if remainder(word) != 0 {

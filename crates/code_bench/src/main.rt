@@ -21,7 +21,9 @@ fn noise(turn: usize) -> [u8; 111] {
     let mut word = [0; 111];
     let mut state = (turn as u64).wrapping_add(0x9E37_79B9_7F4A_7C15);
     for i in 0..111usize {
-        state = state.wrapping_mul(6364136223846793005).wrapping_add(1442695040888963407);
+        state = state
+            .wrapping_mul(6364136223846793005)
+            .wrapping_add(1442695040888963407);
         word[i] = (state >> 63) as u8;
     }
     word
@@ -50,7 +52,13 @@ fn found_in_noise(words: usize) -> u64 {
 }
 
 /// Prints how long a row of the table took.
-fn report(rt: &LibcRuntime, name: &str, start: &Instant, halves: u32, total: u64) -> io::Result<()> {
+fn report(
+    rt: &LibcRuntime,
+    name: &str,
+    start: &Instant,
+    halves: u32,
+    total: u64,
+) -> io::Result<()> {
     let spent = start.elapsed(rt)?.as_secs_f64() * 1e9 / f64::from(halves);
     println!(rt, "{name}: {spent:.0} ns a half ({total})")
 }

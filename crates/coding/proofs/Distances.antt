@@ -3,13 +3,12 @@ use mathlib.Core.Path.{_≡_, refl, sym, ap, ap₂, _∙_}
 use mathlib.Core.Logic.{_⊎_, inl, inr}
 use mathlib.Core.Bool.{Bool, true, false, cond}
 use mathlib.Core.List.{List, [], _∷_, _++_}
-use Prim.Native.Nat.{ℕ, zero, suc, _+_, _-_, _<_, _≤_, min, max}
-use native.Mathlib.Numerals.{add-one}
+use Prim.Native.Nat.{ℕ, suc, _+_, _-_, _<_, _≤_, min, max}
 use native.Mathlib.Omega.{arith}
 use lib.Dec.{eqb}
 use lib.ListN.{length, drop, getD, length-drop}
 use Rattle.std.proofs.shelf.Lists.{drop-more, drop-all}
-use Rattle.std.proofs.shelf.Tests.{eq-eqb, ne-eqb, eqb-true, eqb-false, both-ways, cases-lt}
+use Rattle.std.proofs.shelf.Tests.{eq-eqb, ne-eqb, eqb-true, both-ways, cases-lt}
 use Rattle.coding.specs.Distance.{distance}
 
 pub distance-none : (ys : List ℕ) → distance [] ys ≡ length ys

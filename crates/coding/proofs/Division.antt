@@ -6,7 +6,6 @@ use native.Mathlib.Nat.{div-lt-iff-lt-mul, div-eq-of-lt-le, pow-suc}
 use native.Mathlib.Omega.{arith}
 use lib.Pow.{pow-pos}
 use lib.Bits.{bitAnd, bitXor, and-mask, xor-shr}
-use lib.Dec.{ltb}
 use lib.ListN.{length, drop, getD}
 use Rattle.std.proofs.shelf.Lists.{drop-more, drop-all}
 use Rattle.std.proofs.shelf.Tests.{cond-below, cond-above}

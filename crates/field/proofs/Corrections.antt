@@ -1,5 +1,5 @@
 -- The errors of a received word are the roots of every solution of the key equations.
-use mathlib.Core.Path.{_≡_, refl, sym, ap, ap₂, subst, _∙_}
+use mathlib.Core.Path.{_≡_, refl, sym, ap, ap₂, _∙_}
 use mathlib.Core.Logic.{_⊎_, inl, inr, ⊎-elim}
 use mathlib.Core.Bool.{Bool, true, false, cond}
 use mathlib.Core.List.{List, [], _∷_, map}
@@ -13,10 +13,9 @@ use Rattle.coding.specs.Bits.{areBits}
 use Rattle.coding.specs.Distance.{distance}
 use Rattle.coding.proofs.Words.{bits-parts}
 use Rattle.field.specs.Field.{mul, exp, value}
-use Rattle.field.specs.Code.{Codeword}
 use Rattle.field.specs.Locator.{syndrome, recurrence, KeyEquations, isRoot, flipped, Received, LocatorLaws}
 use Rattle.field.proofs.Elements.{exp-small}
-use Rattle.field.proofs.PowerSums.{Each, Distinct, Nonzero, each-map, powerSum}
+use Rattle.field.proofs.PowerSums.{Each, Nonzero, each-map, powerSum}
 use Rattle.field.proofs.Roots.{roots}
 use Rattle.field.proofs.Differences.{differences, distance-differences, value-differences, placeSum-powerSum, differences-below, differences-distinct, distinct-exp, nonzero-exp, word-length, word-bits}
 use Rattle.field.proofs.Locators.{locates, locator, few-roots}

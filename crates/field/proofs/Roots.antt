@@ -1,8 +1,8 @@
 -- The roots of the code: a root of the generator is a root of each codeword.
-use mathlib.Core.Path.{_≡_, refl, sym, ap, ap₂, subst, _∙_}
+use mathlib.Core.Path.{_≡_, refl, sym, ap, ap₂, _∙_}
 use mathlib.Core.Bool.{Bool, true}
 use mathlib.Core.List.{List, [], _∷_, _++_}
-use Prim.Native.Nat.{ℕ, zero, suc, _+_, _*_, _/_, _%_, _^_, _<_, _≤_}
+use Prim.Native.Nat.{ℕ, zero, suc, _*_, _/_, _%_, _^_, _<_, _≤_}
 use native.Mathlib.Nat.{pow-suc}
 use native.Mathlib.Numerals.{add-one}
 use native.Mathlib.Omega.{arith}
@@ -19,9 +19,9 @@ use Rattle.coding.proofs.Numbers.{bits-number}
 use Rattle.coding.proofs.Sums.{xor-swap}
 use Rattle.coding.proofs.Quotient.{division, reduced-is, reduced-small, brought, top-below}
 use Rattle.field.specs.Field.{byC, byPower, shiftAdd, mul, exp, power, value}
-use Rattle.field.specs.Code.{g4, generator, parity, encode, Codeword, Root-of-g4, Roots}
+use Rattle.field.specs.Code.{g4, generator, parity, encode, Root-of-g4, Roots}
 use Rattle.field.proofs.Tables.{everyBelow, at-each}
-use Rattle.field.proofs.Elements.{bit-cases, dist, mul-small, mul-one, one-mul, zero-r, zero-l, power-small, power-add, exp-small, ring}
+use Rattle.field.proofs.Elements.{bit-cases, dist, mul-small, mul-one, one-mul, zero-r, zero-l, power-add, exp-small, ring}
 
 -- ---- the value at a of the polynomial whose coefficients are the n low bits of a number
 pub evaluate : ℕ → ℕ → ℕ → ℕ

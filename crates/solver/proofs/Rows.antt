@@ -10,9 +10,9 @@ use lib.Dec.{lit<}
 use lib.ListN.{length, getD, drop, take, set, length-take, length-set}
 use lib.Seq.{drop-cons, getD-set-same, drop-set-lt}
 use Rattle.field.specs.Field.{mul, inverse}
-use Rattle.field.proofs.Elements.{comm, assoc, dist, mul-mod, mul-small, one-mul, zero-r, zero-l, cancel, ring, inverts}
+use Rattle.field.proofs.Elements.{comm, assoc, mul-mod, mul-small, one-mul, zero-r, zero-l, cancel, ring, inverts}
 use Rattle.solver.specs.Linear.{sideFrom}
-use Rattle.solver.specs.Elimination.{Clear, SolveFrom, Combined}
+use Rattle.solver.specs.Elimination.{Clear, SolveFrom, Combined, Eliminated}
 
 residue : (x : ℕ) → x % 128 < 128
 residue x = mod-lt x (lit< tt)
@@ -158,8 +158,7 @@ module _ (rows : List (List ℕ)) (col v : ℕ) (h : col < v) (l : v ≤ 6) wher
         f ys (omega arith) (λ i k. after (getD rows i []) ys col (sym (row-free (getD rows i []) col y ys (z i k)) ∙ s i k))
 
   module _ (p : ℕ) (hp : p < length rows) (new : List (List ℕ)) (same : length new ≡ length rows)
-      (m : (i : ℕ) → i < length rows
-      → Combined (getD (getD rows p []) col 0) (getD rows i []) (getD (getD rows i []) col 0) (getD rows p []) (getD new i []))
+      (m : Eliminated col (getD rows p []) rows new)
     where
       pub pivot-none : ((ys : List ℕ) → length ys ≡ v - (col + 1) → SolveFrom (col + 1) new ys → ⊥)
           → (ys : List ℕ) → length ys ≡ v - col → SolveFrom col rows ys → ⊥

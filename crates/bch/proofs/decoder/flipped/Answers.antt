@@ -1,9 +1,9 @@
-use mathlib.Core.Path.{_≡_, refl, sym, ap, _∙_}
-use Prim.Native.Nat.{ℕ, _-_}
+use mathlib.Core.Path.{refl, _∙_}
+use Prim.Native.Nat.{_-_}
 use native.Mathlib.Omega.{arith}
 use lib.ListN.{length-set, take, replicate}
 use Rattle.coding.proofs.Words.{bit-at, bits-set}
-use Rattle.field.specs.Locator.{flipped, isRoot}
+use Rattle.field.specs.Locator.{isRoot}
 use Rattle.bch.proofs.Systems.{power-first, power-below, flipped-none, flipped-more, place-more, flipped-all}
 use Rattle.bch.proofs.decoder.flipped.Needs as need
 

@@ -1,10 +1,10 @@
 use mathlib.Core.Path.{_≡_, refl, sym, ap, _∙_}
 use Prim.Native.Nat.{ℕ, _+_, _-_, _<_}
 use native.Mathlib.Omega.{arith}
-use lib.ListN.{getD, length-set}
+use lib.ListN.{length-set}
 use Rattle.coding.specs.Bits.{bits}
 use Rattle.field.specs.Field.{exp, value}
-use Rattle.bch.proofs.Systems.{set-below, power-more, power-first, power-below}
+use Rattle.bch.proofs.Systems.{set-below, power-more, power-first}
 use Rattle.bch.proofs.decoder.syndromes.Needs as need
 
 pub loop-k-holds : need.loop-k-holds

@@ -1,7 +1,6 @@
-use mathlib.Core.Path.{_≡_, refl, sym, ap, ap₂, _∙_}
-use Prim.Native.Nat.{ℕ, suc, _-_, _/_, _%_, _^_}
+use mathlib.Core.Path.{sym}
 use native.Mathlib.Omega.{arith}
-use Rattle.field.proofs.Roots.{evaluate, evaluate-none, value-bits}
+use Rattle.field.proofs.Roots.{evaluate-none}
 use Rattle.bch.proofs.Codewords.{horner, horner-end}
 use Rattle.bch.proofs.decoder.value_at.Needs as need
 

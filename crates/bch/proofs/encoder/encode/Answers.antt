@@ -3,11 +3,12 @@ use mathlib.Core.Bool.{true}
 use Rattle.std.proofs.shelf.Tests.{cond-true}
 use Rattle.std.specs.declared.result.Result.the-variants.{Ok, Err}
 use Rattle.coding.specs.Bits.{areBits}
-use Rattle.field.specs.Code.{encode, Codeword}
+use Rattle.coding.specs.Polynomial.{OnlyRemainder}
+use Rattle.field.specs.Code.{generator, encode, Codeword}
 use Rattle.field.proofs.Roots.{roots, parity-remains}
 use Rattle.field.proofs.Differences.{far}
 use Rattle.bch.specs.declared.word.CodeRefusal.the-variants.{NotBits}
-use Rattle.bch.proofs.Codewords.{encoded-code, encode-is}
+use Rattle.bch.proofs.Codewords.{encoded-code, encode-is, parity-read}
 use Rattle.bch.proofs.encoder.encode.Needs as need
 
 pub returns : need.returns
@@ -18,7 +19,7 @@ returns c =
     let code : Codeword (c .with-parity .result) = subst Codeword (sym e) (encoded-code d (c .told-data) bit) in
     record {
       is = ap Ok e ∙ sym (cond-true (areBits d) (Ok (encode d)) (Err NotBits) bit);
-      only = λ h. parity-remains d h;
+      only = λ w q. let s : w ≡ encode d = cc in subst (OnlyRemainder 42 generator 0 d) (sym (parity-read d w (c .told-data) bit s)) (parity-remains d bit);
       roots = λ w q i h. roots w (let s : c .with-parity .result ≡ w = cc in subst Codeword s code) i h;
       far = λ w v q cv near. far w v (let s : c .with-parity .result ≡ w = cc in subst Codeword s code) cv near;
     }

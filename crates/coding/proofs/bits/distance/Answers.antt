@@ -1,4 +1,3 @@
-use mathlib.Core.Path.{_≡_}
 use native.Mathlib.Omega.{arith}
 use Rattle.coding.proofs.Distances.{distance-alike, distance-unlike, distance-rest}
 use Rattle.coding.proofs.bits.distance.Needs as need
