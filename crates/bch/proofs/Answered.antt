@@ -25,9 +25,11 @@ use Rattle.bch.proofs.Nearby.{near-nearest, none-nearest}
 -- a word with a remainder is no codeword, so a codeword near it is at least one place away
 pub not-here : (r w : List ℕ) → (leftover r ≡ 0 → ⊥) → Near r w → 1 ≤ distance r w
 not-here r w damaged n =
-    ⊎-elim (λ z. absurd (damaged (ap leftover (distance-zero r w z) ∙ codeword-leftover w (n .code)))) (λ p. p) (eq-zero-or-pos (distance r w))
+    ⊎-elim (λ z. absurd (damaged (ap leftover (distance-zero r w z) ∙ codeword-leftover w (n .code)))) (λ p. p)
+    (eq-zero-or-pos (distance r w))
 
-pub found-near : (r : List ℕ) (a : Corrected) → length r ≡ 111 → areBits r ≡ true → Near r (a .codeword) → a .places ≡ distance r (a .codeword)
+pub found-near : (r : List ℕ) (a : Corrected) → length r ≡ 111 → areBits r ≡ true → Near r (a .codeword)
+    → a .places ≡ distance r (a .codeword)
     → _≡_ {A = Result Corrected CodeRefusal} (Ok a) (found r (nearest r))
 found-near r a l b n e =
     let s : a ≡ corrected r (a .codeword) = ap (λ (p : ℕ). made (a .codeword) p) e in

@@ -35,7 +35,8 @@ module _ (w : List ℕ) (l : length w ≡ 111) (b : areBits w ≡ true) where
         bit = bits-take 69 w b;
         is = sym (take-append-drop 69 w)
             ∙ ap (λ (z : List ℕ). take 69 w ++ z)
-            (sym (bits-number (drop 69 w) 42 back-length (bits-drop 69 w b)) ∙ ap (bits 42) (sym (xor-same (parity (take 69 w)) (number (drop 69 w)) e)));
+            (sym (bits-number (drop 69 w) 42 back-length (bits-drop 69 w b))
+            ∙ ap (bits 42) (sym (xor-same (parity (take 69 w)) (number (drop 69 w)) e)));
       }
 
   -- at c to c^12 the word has the value of its remainder

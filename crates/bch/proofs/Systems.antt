@@ -36,7 +36,8 @@ side-recurrence f n row col [] b c e h =
     ap (λ (z : ℕ). z % 128) (ap (λ (k : ℕ). getD row k 0) (sym (add-zero col)) ∙ e) ∙ mod-eq-of-lt h
 side-recurrence f n row col (l ∷ ls) b c e h =
     let d : suc (length ls) - 1 ≡ length ls = omega arith in
-    ap₂ bitXor (comm (getD row col 0) l ∙ ap (mul l) (ap (λ (k : ℕ). getD row k 0) (sym (add-zero col)) ∙ c 0 (omega arith) ∙ ap (λ (m : ℕ). f (n + m)) d))
+    ap₂ bitXor (comm (getD row col 0) l ∙ ap (mul l)
+    (ap (λ (k : ℕ). getD row k 0) (sym (add-zero col)) ∙ c 0 (omega arith) ∙ ap (λ (m : ℕ). f (n + m)) d))
     (side-recurrence f n row (suc col) ls b
     (λ j k.
     let g : suc (length ls) - suc (suc j) ≡ length ls - suc j = omega arith in
@@ -159,7 +160,8 @@ pub locator-none : (x : ℕ) → 1 ≡ value x (1 ∷ [])
 unfolding value power
 locator-none x = sym (xor-zero-r (mul 1 1) ∙ one-mul 1 (lit< tt))
 
-pub locator-more : (x : ℕ) (ls : List ℕ) (j s p : ℕ) → x < 128 → j < length ls → getD ls j 0 < 128 → s ≡ value x (1 ∷ take j ls) → p ≡ mul x s
+pub locator-more : (x : ℕ) (ls : List ℕ) (j s p : ℕ) → x < 128 → j < length ls → getD ls j 0 < 128 → s ≡ value x (1 ∷ take j ls)
+    → p ≡ mul x s
     → bitXor p (getD ls j 0) ≡ value x (1 ∷ take (j + 1) ls)
 locator-more x ls j s p hx h hl e f =
     ap (λ (z : ℕ). bitXor z (getD ls j 0)) (f ∙ ap (mul x) e) ∙ sym (value-push x (1 ∷ take j ls) (getD ls j 0) hx hl)

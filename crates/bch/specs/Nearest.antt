@@ -27,6 +27,7 @@ unfoldable pub first : (List ℕ → Bool) → List (List ℕ) → Option (List 
 first p [] = None
 first p (w ∷ ws) = cond (p w) (Some w) (first p ws)
 
+-- the codeword within six places
 unfoldable pub nearest : List ℕ → Option (List ℕ)
 nearest w = first reEncodes (ball 6 w)
 

@@ -104,7 +104,8 @@ pub distance-rest : (a b : List ℕ) (i : ℕ) → i ≡ min (length a) (length 
     → distance (drop i a) (drop i b) ≡ max (length a) (length b) - min (length a) (length b)
 distance-rest a b i e = by (cases-lt (length a) (length b))
   where
-    by : (length a < length b) ⊎ (length b ≤ length a) → distance (drop i a) (drop i b) ≡ max (length a) (length b) - min (length a) (length b)
+    by : (length a < length b) ⊎ (length b ≤ length a)
+        → distance (drop i a) (drop i b) ≡ max (length a) (length b) - min (length a) (length b)
     by (inl l) =
         ap (λ (z : List ℕ). distance z (drop i b)) (drop-all i a (omega arith)) ∙ distance-none (drop i b) ∙ simp length-drop (omega arith)
     by (inr l) = ap (distance (drop i a)) (drop-all i b (omega arith)) ∙ distance-none-right (drop i a) ∙ simp length-drop (omega arith)

@@ -50,7 +50,8 @@ remainder-append n g r [] ys = refl
 remainder-append n g r (x ∷ xs) ys = remainder-append n g (reduced n g (bitXor (r * 2) (x * 2 ^ n))) xs ys
 
 -- of the i low bits of x the highest is brought down
-pub remainder-bit : (n g r x i y : ℕ) → 0 < i → y ≡ reduced n g (bitXor (r * 2) (bitAnd (x / 2 ^ (i - 1)) 1 * 2 ^ n)) → remainder n g y (bits (i - 1) x) ≡ remainder n g r (bits i x)
+pub remainder-bit : (n g r x i y : ℕ) → 0 < i → y ≡ reduced n g (bitXor (r * 2) (bitAnd (x / 2 ^ (i - 1)) 1 * 2 ^ n))
+    → remainder n g y (bits (i - 1) x) ≡ remainder n g r (bits i x)
 remainder-bit n g r x zero y h e = absurd (omega arith)
 remainder-bit n g r x (suc i) y h e =
     let j : suc i - 1 ≡ i = omega arith in

@@ -11,7 +11,8 @@ use lib.ListN.{getD}
 use Rattle.std.proofs.shelf.Tests.{eqb-true}
 use Rattle.field.specs.Field.{byC, byPower, mul, exp, power, inverse}
 use Rattle.field.proofs.Tables.{everyBelow, at-each}
-use Rattle.field.proofs.Elements.{byC-small, comm, assoc, mul-zero′, mul-zero-r′, mul-exps, exp-whole, exp-small, mul-one, one-mul, power-small, inverts}
+use Rattle.field.proofs.Elements.{byC-small, comm, assoc, mul-zero′, mul-zero-r′, mul-exps, exp-whole, exp-small, mul-one, one-mul}
+use Rattle.field.proofs.Elements.{power-small, inverts}
 
 -- the powers of c
 unfoldable pub powers : List ℕ

@@ -21,7 +21,10 @@ returns c =
     let d = c .distance-places .result in
     let q : d ≡ distance r w = c .distance-places .ensures in
     let near : Near r w =
-    record { code = codeword-from w (c .told-word) (c .pre) (sym (c .remainder .ensures) ∙ c .if-remainder-ne0 .left); near = omega (arith, q, c .if-places-gt6 .left) }
+    record {
+      code = codeword-from w (c .told-word) (c .pre) (sym (c .remainder .ensures) ∙ c .if-remainder-ne0 .left);
+      near = omega (arith, q, c .if-places-gt6 .left);
+    }
     in
     let answer : Corrected = record { codeword = w; places = d } in
     record {

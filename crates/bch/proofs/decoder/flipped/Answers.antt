@@ -31,13 +31,15 @@ loop-i-again c =
       place-more i (c .loop-i .x) (c .times-c-x .result) (omega arith) (omega arith) (c .loop-i .inv .1) (c .times-c-x .ensures .is),
       bits-set out (i - 1) t (c .loop-i .inv .2) (c .flipped-if-root .ensures .bit),
       flipped-more (take (c .args .v) (c .args .locator .now)) (c .args .word .now) out i (c .loop-i .x) (c .locator-value .result) t
-          (omega arith) (omega arith) (omega arith) (c .loop-i .inv .0) (c .loop-i .inv .1) (c .locator-value .ensures) (c .flipped-if-root .ensures .is)
+          (omega arith) (omega arith) (omega arith) (c .loop-i .inv .0) (c .loop-i .inv .1) (c .locator-value .ensures)
+          (c .flipped-if-root .ensures .is)
           (c .loop-i .inv .3),
     )
 
 pub returns : need.returns
 returns c =
     record {
-      is = flipped-all (isRoot (take (c .args .v) (c .args .locator .now))) (c .args .word .now) (c .loop-i .out) (c .loop-i .i) (omega arith) (c .loop-i .inv .3);
+      is = flipped-all (isRoot (take (c .args .v) (c .args .locator .now))) (c .args .word .now) (c .loop-i .out) (c .loop-i .i)
+          (omega arith) (c .loop-i .inv .3);
       bits = c .loop-i .inv .2;
     }

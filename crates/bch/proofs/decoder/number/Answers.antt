@@ -16,7 +16,8 @@ mul-sum c =
 pub add-sum : need.add-sum
 add-sum c =
     let h : c .loop-bit .sum < 2 ^ 62 = sum-fits (c .loop-bit .sum) (c .loop-bit .bit-index) (c .loop-bit .inv .1) (omega arith) in
-    let b : getD (c .args .word .now) (c .loop-bit .bit-index) 0 < 2 = bit-at (c .args .word .now) (c .pre .bits) (c .loop-bit .bit-index) in
+    let b : getD (c .args .word .now) (c .loop-bit .bit-index) 0 < 2 = bit-at (c .args .word .now) (c .pre .bits)
+    (c .loop-bit .bit-index) in
     record { fits = omega (arith, c .from .ensures) }
 
 pub loop-bit-again : need.loop-bit-again

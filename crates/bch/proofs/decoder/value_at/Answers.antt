@@ -9,7 +9,8 @@ loop-i-holds c = sym (evaluate-none (c .args .x) _)
 
 pub loop-i-again : need.loop-i-again
 loop-i-again c =
-    horner (c .args .x) (c .args .rest) (c .loop-i .i) (c .loop-i .sum) (c .product .result) (omega arith) (omega arith) (c .loop-i .inv) (c .product .ensures .is)
+    horner (c .args .x) (c .args .rest) (c .loop-i .i) (c .loop-i .sum) (c .product .result) (omega arith) (omega arith)
+    (c .loop-i .inv) (c .product .ensures .is)
 
 pub returns : need.returns
 returns c = horner-end (c .args .x) (c .args .rest) (c .loop-i .i) (c .loop-i .sum) (c .pre) (omega arith) (c .loop-i .inv)

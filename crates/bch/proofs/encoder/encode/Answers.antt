@@ -15,11 +15,13 @@ pub returns : need.returns
 returns c =
     let d = c .args .«data» .now in
     let bit : areBits d ≡ true = sym (c .if-not-are-bits .ensures tt) in
-    let e : c .with-parity .result ≡ encode d = encode-is d (c .with-parity .result) (c .parity .result) (c .with-parity .ensures) (c .parity .ensures .is) in
+    let e : c .with-parity .result ≡ encode d = encode-is d (c .with-parity .result) (c .parity .result) (c .with-parity .ensures)
+    (c .parity .ensures .is) in
     let code : Codeword (c .with-parity .result) = subst Codeword (sym e) (encoded-code d (c .told-data) bit) in
     record {
       is = ap Ok e ∙ sym (cond-true (areBits d) (Ok (encode d)) (Err NotBits) bit);
-      only = λ w q. let s : w ≡ encode d = cc in subst (OnlyRemainder 42 generator 0 d) (sym (parity-read d w (c .told-data) bit s)) (parity-remains d bit);
+      only = λ w q. let s : w ≡ encode d = cc in subst (OnlyRemainder 42 generator 0 d) (sym (parity-read d w (c .told-data) bit s))
+          (parity-remains d bit);
       roots = λ w q i h. roots w (let s : c .with-parity .result ≡ w = cc in subst Codeword s code) i h;
       far = λ w v q cv near. far w v (let s : c .with-parity .result ≡ w = cc in subst Codeword s code) cv near;
     }

@@ -24,4 +24,5 @@ loop-i-again c =
 
 pub returns : need.returns
 returns c =
-    parity-all (c .args .«data» .now) (c .loop-i .word) _ (c .loop-i .i) (c .loop-i .rest) (omega arith) (c .loop-i .inv .2) (c .loop-i .inv .3)
+    parity-all (c .args .«data» .now) (c .loop-i .word) _ (c .loop-i .i) (c .loop-i .rest) (omega arith) (c .loop-i .inv .2)
+    (c .loop-i .inv .3)
