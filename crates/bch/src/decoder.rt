@@ -27,6 +27,9 @@ ghost use Rattle.bch.specs.Nearest.{nearest, Near, Finds};
 ghost use Rattle.bch.specs.Codec.{found, decoded};
 ghost use Rattle.bch.specs.Search.{leftover, Syndromes, Equation, Corrects, NoneAt};
 
+/// How many errors are corrected.
+const RADIUS: usize = 6;
+
 /// The codeword within six places of 111 received bits, and in how many places they differ from it.
 pub fn decode(received: &[u8; 111]) -> Result<Corrected, CodeRefusal>
     ensures is { λ r. ⌜ r ≡ decoded (now (received .entry)) ⌝ }
@@ -52,7 +55,7 @@ fn search(received: &[u8; 111], s: &[u8; 13]) -> Result<Corrected, CodeRefusal>
     requires syndromes { ⌜ Syndromes (leftover (now received)) (now s) ⌝ }
     ensures { λ r. ⌜ r ≡ found (now (received .entry)) (nearest (now (received .entry))) ⌝ }
 {
-    for v in 1..7usize {
+    for v in 1..=RADIUS {
         if let Some(corrected) = attempt(received, s, v) {
             return Ok(corrected);
         }
@@ -78,17 +81,25 @@ fn accepted(received: &[u8; 111], word: &[u8; 111]) -> Option<Corrected>
     ensures some { λ r. ⌜ ((a : Corrected) → r ≡ Some a → Corrects (now (received .entry)) a) ⌝ }
     ensures none { λ r. ⌜ (r ≡ None → Near (now (received .entry)) (now (word .entry)) → ⊥) ⌝ }
 {
-    if remainder(word) != 0 {
+    if !is_codeword(word) {
         return None;
     }
     let places = distance(received, word);
-    if places > 6 {
+    if places > RADIUS {
         return None;
     }
     Some(Corrected {
         codeword: *word,
         places: places as u8,
     })
+}
+
+/// Whether a word of bits is a codeword.
+fn is_codeword(word: &[u8; 111]) -> bool
+    requires { ⌜ areBits (now word) ≡ true ⌝ }
+    ensures { λ r. ⌜ r ≡ eqb (leftover (now (word .entry))) 0 ⌝ }
+{
+    remainder(word) == 0
 }
 
 /// The remainder of a word by the generator: the parity that its data ask for and the parity that came, added.

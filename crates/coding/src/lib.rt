@@ -2,11 +2,13 @@
 
 mod bits;
 mod crc;
+mod laws;
 
 pub use bits::are_bits;
 pub use bits::distance;
 pub use crc::crc8;
 pub use crc::crc8_of_bits;
+pub use laws::division_law;
 
 // The checks below were computed by dividing polynomials as whole numbers, the start's eight ones before the bits.
 #[cfg(test)]

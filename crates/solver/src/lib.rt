@@ -11,8 +11,8 @@ ghost use Rattle.std.specs.declared.option.Option.the-variants.{Some, None};
 ghost use Rattle.solver.specs.Linear.{sideFrom, Solve};
 ghost use Rattle.solver.specs.Elimination.{SolveFrom, Combined, Eliminated};
 
-/// Values of the unknowns, at most six, that solve the equations; nothing where there are none. An unknown that the
-/// equations leave free is 0.
+/// Values of the unknowns, at most six, that solve the equations; nothing where there are none. Where the equations leave an
+/// unknown free, its value is any.
 pub fn solve(equations: &[[u8; 7]; 6], unknowns: usize) -> Option<[u8; 6]>
     ensures some { λ r. ⌜ ((xs : List ℕ) → r ≡ Some xs → Solve (now (equations .entry)) (take (min unknowns 6) xs)) ⌝ }
     ensures small { λ r. ⌜ ((xs : List ℕ) → r ≡ Some xs → (k : ℕ) → getD xs k 0 < 128) ⌝ }
