@@ -1,21 +1,18 @@
 -- The decoder's answers are the search's.
-use mathlib.Core.Path.{_≡_, refl, sym, ap, ap₂, subst, _∙_}
+use mathlib.Core.Path.{_≡_, sym, ap, _∙_}
 use mathlib.Core.Logic.{⊎-elim}
-use mathlib.Core.Bool.{true, cond}
+use mathlib.Core.Bool.{true}
 use mathlib.Core.List.{List}
-use Prim.Native.Nat.{ℕ, _<_, _≤_}
+use Prim.Native.Nat.{ℕ, _≤_}
 use native.Mathlib.Nat.{eq-zero-or-pos}
 use native.Mathlib.Omega.{arith}
 use lib.ListN.{length}
-use Rattle.std.specs.declared.option.Option.{Option}
-use Rattle.std.specs.declared.option.Option.the-variants.{Some, None}
 use Rattle.std.specs.declared.result.Result.{Result}
 use Rattle.std.specs.declared.result.Result.the-variants.{Ok, Err}
 use Rattle.std.proofs.shelf.Tests.{cond-true}
 use Rattle.coding.specs.Bits.{areBits}
 use Rattle.coding.specs.Distance.{distance}
 use Rattle.coding.proofs.Distances.{distance-zero, distance-self}
-use Rattle.field.specs.Code.{Codeword}
 use Rattle.bch.specs.declared.word.CodeRefusal.{CodeRefusal}
 use Rattle.bch.specs.declared.word.CodeRefusal.the-variants.{NotBits, NoCodeword}
 use Rattle.bch.specs.declared.word.Corrected.{Corrected}
@@ -28,9 +25,11 @@ use Rattle.bch.proofs.Nearby.{near-nearest, none-nearest}
 -- a word with a remainder is no codeword, so a codeword near it is at least one place away
 pub not-here : (r w : List ℕ) → (leftover r ≡ 0 → ⊥) → Near r w → 1 ≤ distance r w
 not-here r w damaged n =
-    ⊎-elim (λ z. absurd (damaged (ap leftover (distance-zero r w z) ∙ codeword-leftover w (n .code)))) (λ p. p) (eq-zero-or-pos (distance r w))
+    ⊎-elim (λ z. absurd (damaged (ap leftover (distance-zero r w z) ∙ codeword-leftover w (n .code)))) (λ p. p)
+    (eq-zero-or-pos (distance r w))
 
-pub found-near : (r : List ℕ) (a : Corrected) → length r ≡ 111 → areBits r ≡ true → Near r (a .codeword) → a .places ≡ distance r (a .codeword)
+pub found-near : (r : List ℕ) (a : Corrected) → length r ≡ 111 → areBits r ≡ true → Near r (a .codeword)
+    → a .places ≡ distance r (a .codeword)
     → _≡_ {A = Result Corrected CodeRefusal} (Ok a) (found r (nearest r))
 found-near r a l b n e =
     let s : a ≡ corrected r (a .codeword) = ap (λ (p : ℕ). made (a .codeword) p) e in

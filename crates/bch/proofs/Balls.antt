@@ -1,9 +1,9 @@
 -- The words within k places of a word: each of them is in the ball, and nothing else.
 use mathlib.Core.Path.{_≡_, refl, sym, ap, subst, _∙_}
 use mathlib.Core.Logic.{_⊎_, inl, inr, ⊎-elim}
-use mathlib.Core.Bool.{Bool, true, false, cond}
+use mathlib.Core.Bool.{Bool, true, false}
 use mathlib.Core.List.{List, [], _∷_, _++_, map}
-use Prim.Native.Nat.{ℕ, zero, suc, _+_, _-_, _<_, _≤_}
+use Prim.Native.Nat.{ℕ, zero, suc, _-_, _<_, _≤_}
 use native.Mathlib.Omega.{arith}
 use lib.Dec.{eqb}
 use lib.ListN.{length}
@@ -55,7 +55,11 @@ kept k b w c h i = record { long = ap suc (i .long); bit = bits-join b c h (i .b
 
 turned : (k b : ℕ) (w c : List ℕ) → b < 2 → Inside k w c → Inside (suc k) (b ∷ w) ((1 - b) ∷ c)
 turned k b w c h i =
-    record { long = ap suc (i .long); bit = bits-join (1 - b) c (omega arith) (i .bit); near = omega (arith, distance-step b (1 - b) w c, i .near) }
+    record {
+      long = ap suc (i .long);
+      bit = bits-join (1 - b) c (omega arith) (i .bit);
+      near = omega (arith, distance-step b (1 - b) w c, i .near);
+    }
 
 pub ball-inside : (k : ℕ) (w : List ℕ) → areBits w ≡ true → All (Inside k w) (ball k w)
 unfolding ball
@@ -66,7 +70,8 @@ ball-inside zero (b ∷ w) h =
 ball-inside (suc k) (b ∷ w) h =
     let p = bits-parts b w h in
     all-append (Inside (suc k) (b ∷ w)) (map (λ c. b ∷ c) (ball (suc k) w)) (map (λ c. (1 - b) ∷ c) (ball k w))
-    (all-map (Inside (suc k) w) (Inside (suc k) (b ∷ w)) (λ c. b ∷ c) (ball (suc k) w) (λ c i. kept (suc k) b w c (p .0) i) (ball-inside (suc k) w (p .1)))
+    (all-map (Inside (suc k) w) (Inside (suc k) (b ∷ w)) (λ c. b ∷ c) (ball (suc k) w) (λ c i. kept (suc k) b w c (p .0) i)
+    (ball-inside (suc k) w (p .1)))
     (all-map (Inside k w) (Inside (suc k) (b ∷ w)) (λ c. (1 - b) ∷ c) (ball k w) (λ c i. turned k b w c (p .0) i) (ball-inside k w (p .1)))
 
 -- ---- what is within k places is in the ball

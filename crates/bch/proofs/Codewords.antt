@@ -1,6 +1,6 @@
 -- Codewords, written and recognised.
 use mathlib.Core.Path.{_≡_, refl, sym, ap, ap₂, subst, _∙_}
-use mathlib.Core.Bool.{Bool, true, false, cond}
+use mathlib.Core.Bool.{true}
 use mathlib.Core.List.{List, [], _∷_, _++_, append-assoc, append-nil}
 use Prim.Native.Nat.{ℕ, zero, suc, _+_, _-_, _*_, _/_, _%_, _^_, _<_, _≤_}
 use native.Mathlib.Nat.{lt-of-lt-of-le, pow-suc}
@@ -8,17 +8,18 @@ use native.Mathlib.Numerals.{add-one}
 use native.Mathlib.Omega.{arith}
 use lib.Pow.{pow-mono}
 use lib.Bits.{bitXor}
-use lib.Dec.{lit<, lit≤, eqb}
-use lib.Seq.{drop-cons, drop-set-lt, getD-set-same, take-at, take-all}
-use lib.ListN.{length, getD, drop, take, set, length-set, length-append, length-take, length-drop, take-append-drop}
+use lib.Dec.{lit≤}
+use lib.Seq.{drop-cons, drop-set-lt, getD-set-same, take-at, drop-at}
+use lib.ListN.{length, getD, drop, take, set, length-set, length-append, take-append-drop}
 use Rattle.std.proofs.shelf.Lists.{drop-all}
-use Rattle.coding.specs.Bits.{areBits, bits}
+use Rattle.coding.specs.Bits.{areBits, bits, number}
 use Rattle.coding.specs.Polynomial.{times, reduced}
 use Rattle.coding.proofs.Words.{bits-none, bits-low}
+use Rattle.coding.proofs.Numbers.{number-bits}
 use Rattle.coding.proofs.Quotient.{brought, reduced-small}
 use Rattle.field.specs.Code.{generator, parity, encode, Codeword}
 use Rattle.field.specs.Field.{mul, value}
-use Rattle.field.proofs.Roots.{generator-degree, evaluate, evaluate-more, value-bits}
+use Rattle.field.proofs.Roots.{generator-degree, evaluate, evaluate-more, value-bits, parity-remains}
 
 -- the generator, computed
 pub generator-is : generator ≡ 8464279204727
@@ -76,6 +77,13 @@ encoded-code d l b = record { message = d; sixty-nine = l; bit = b; is = refl }
 pub encode-is : (d w : List ℕ) (p : ℕ) → w ≡ d ++ bits 42 p → p ≡ parity d → w ≡ encode d
 unfolding encode
 encode-is d w p e f = e ∙ ap (λ (z : ℕ). d ++ bits 42 z) f
+
+-- the last 42 bits read as a number are the parity
+pub parity-read : (d w : List ℕ) → length d ≡ 69 → areBits d ≡ true → w ≡ encode d → number (drop 69 w) ≡ parity d
+unfolding encode
+parity-read d w l b e =
+    ap (λ (z : List ℕ). number (drop 69 z)) e ∙ ap number (drop-at d (bits 42 (parity d)) 69 l)
+    ∙ number-bits 42 (parity d) (parity-remains d b .remains .small)
 
 -- ---- a loop that reads a number of at most 63 bits
 pub sum-fits : (s i : ℕ) → s < 2 ^ i → i < 63 → s < 2 ^ 62

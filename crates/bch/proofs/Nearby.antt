@@ -1,11 +1,10 @@
 -- The search through the ball finds the codeword within six places.
 use mathlib.Core.Path.{_≡_, refl, sym, ap, subst, _∙_}
-use mathlib.Core.Logic.{_⊎_, inl, inr, ⊎-elim, _↔_}
+use mathlib.Core.Logic.{_⊎_, inl, inr, ⊎-elim}
 use mathlib.Core.Bool.{Bool, true, false, cond}
 use mathlib.Core.List.{List, [], _∷_}
-use Prim.Native.Nat.{ℕ, _+_, _<_, _≤_}
+use Prim.Native.Nat.{ℕ}
 use native.Mathlib.Omega.{arith}
-use lib.Dec.{eqb}
 use lib.Seq.{take-at}
 use lib.ListN.{length, take, length-take}
 use Rattle.std.specs.declared.option.Option.{Option}
@@ -26,7 +25,8 @@ first-at : (P : List ℕ → Type 0) (p : List ℕ → Bool) (w c : List ℕ) (t
 first-at P p w c true rest e h k q = let s : w ≡ c = cc in (subst P s h, subst (λ (z : List ℕ). p z ≡ true) s e)
 first-at P p w c false rest e h k q = k q
 
-first-found : (P : List ℕ → Type 0) (p : List ℕ → Bool) (ws : List (List ℕ)) (c : List ℕ) → All P ws → first p ws ≡ Some c → P c × (p c ≡ true)
+first-found : (P : List ℕ → Type 0) (p : List ℕ → Bool) (ws : List (List ℕ)) (c : List ℕ) → All P ws → first p ws ≡ Some c
+    → P c × (p c ≡ true)
 unfolding first
 first-found P p [] c h e = let z : _≡_ {A = ℕ} 0 1 = cc in absurd (omega arith)
 first-found P p (w ∷ ws) c h e = first-at P p w c (p w) (first p ws) refl (h .0) (λ q. first-found P p ws c (h .1) q) e

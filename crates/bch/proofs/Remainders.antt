@@ -1,18 +1,16 @@
 -- The remainder of a received word: zero exactly at codewords, and with the word's syndromes.
-use mathlib.Core.Path.{_≡_, refl, sym, ap, ap₂, subst, _∙_}
+use mathlib.Core.Path.{_≡_, sym, ap, ap₂, _∙_}
 use mathlib.Core.Bool.{true}
-use mathlib.Core.List.{List, [], _∷_, _++_}
-use Prim.Native.Nat.{ℕ, zero, suc, _+_, _-_, _^_, _<_, _≤_}
+use mathlib.Core.List.{List, _++_}
+use Prim.Native.Nat.{ℕ, zero, suc, _^_, _<_}
 use native.Mathlib.Omega.{arith}
 use lib.Bits.{bitXor, xor-self}
-use lib.Dec.{lit<}
 use lib.Seq.{take-at, drop-at}
-use lib.ListN.{length, getD, drop, take, length-take, length-drop, take-append-drop}
+use lib.ListN.{length, drop, take, length-take, length-drop, take-append-drop}
 use Rattle.coding.specs.Bits.{areBits, bits, number}
-use Rattle.coding.proofs.Words.{bits-take, bits-drop, length-bits}
+use Rattle.coding.proofs.Words.{bits-take, bits-drop}
 use Rattle.coding.proofs.Numbers.{bits-number, number-bits}
 use Rattle.coding.proofs.Sums.{xor-same}
-use Rattle.coding.proofs.Quotient.{division}
 use Rattle.field.specs.Field.{exp, value}
 use Rattle.field.specs.Code.{generator, parity, encode, Codeword}
 use Rattle.field.specs.Locator.{syndrome}
@@ -37,7 +35,8 @@ module _ (w : List ℕ) (l : length w ≡ 111) (b : areBits w ≡ true) where
         bit = bits-take 69 w b;
         is = sym (take-append-drop 69 w)
             ∙ ap (λ (z : List ℕ). take 69 w ++ z)
-            (sym (bits-number (drop 69 w) 42 back-length (bits-drop 69 w b)) ∙ ap (bits 42) (sym (xor-same (parity (take 69 w)) (number (drop 69 w)) e)));
+            (sym (bits-number (drop 69 w) 42 back-length (bits-drop 69 w b))
+            ∙ ap (bits 42) (sym (xor-same (parity (take 69 w)) (number (drop 69 w)) e)));
       }
 
   -- at c to c^12 the word has the value of its remainder

@@ -1,23 +1,23 @@
 -- The key equations as linear equations, and what their solution does to the received word.
-use mathlib.Core.Path.{_≡_, refl, sym, ap, ap₂, subst, _∙_}
-use mathlib.Core.Logic.{_⊎_, inl, inr, ⊎-elim}
-use mathlib.Core.Bool.{Bool, true, false, cond}
-use mathlib.Core.List.{List, [], _∷_, _++_}
+use mathlib.Core.Path.{_≡_, sym, ap, ap₂, subst, _∙_}
+use mathlib.Core.Logic.{⊎-elim}
+use mathlib.Core.Bool.{Bool, true, cond}
+use mathlib.Core.List.{List, [], _∷_}
 use Prim.Native.Nat.{ℕ, zero, suc, _+_, _-_, _%_, _<_, _≤_, min}
 use native.Mathlib.Nat.{mod-eq-of-lt, eq-or-lt-of-le, add-zero, add-suc, suc-add}
 use native.Mathlib.Numerals.{add-one}
 use native.Mathlib.Omega.{arith}
 use lib.Bits.{bitXor, xor-assoc, xor-comm, xor-zero-r}
 use lib.Dec.{lit<, eqb}
-use lib.Seq.{getD-set-same, getD-set-other, take-suc}
+use lib.Seq.{getD-set-same, getD-set-other}
 use lib.ListN.{length, getD, drop, take, set, length-take, length-drop}
 use Rattle.std.proofs.shelf.Tests.{cases-lt}
 use Rattle.std.proofs.shelf.Lists.{take-more, drop-all}
-use Rattle.coding.specs.Bits.{areBits, bits}
+use Rattle.coding.specs.Bits.{areBits}
 use Rattle.coding.specs.Distance.{distance}
 use Rattle.field.specs.Field.{byC, mul, exp, power, value}
 use Rattle.field.specs.Locator.{syndrome, recurrence, KeyEquations, isRoot, flipped, Received}
-use Rattle.field.proofs.Elements.{comm, mul-small, one-mul, zero-l, zero-r, exp-small, exp-next, exp-nought, power-small}
+use Rattle.field.proofs.Elements.{comm, one-mul, zero-l, exp-small, exp-next, exp-nought}
 use Rattle.field.proofs.Roots.{value-push}
 use Rattle.field.proofs.Locators.{value-small}
 use Rattle.field.proofs.Corrections.{solvable, corrects}
@@ -36,7 +36,8 @@ side-recurrence f n row col [] b c e h =
     ap (λ (z : ℕ). z % 128) (ap (λ (k : ℕ). getD row k 0) (sym (add-zero col)) ∙ e) ∙ mod-eq-of-lt h
 side-recurrence f n row col (l ∷ ls) b c e h =
     let d : suc (length ls) - 1 ≡ length ls = omega arith in
-    ap₂ bitXor (comm (getD row col 0) l ∙ ap (mul l) (ap (λ (k : ℕ). getD row k 0) (sym (add-zero col)) ∙ c 0 (omega arith) ∙ ap (λ (m : ℕ). f (n + m)) d))
+    ap₂ bitXor (comm (getD row col 0) l ∙ ap (mul l)
+    (ap (λ (k : ℕ). getD row k 0) (sym (add-zero col)) ∙ c 0 (omega arith) ∙ ap (λ (m : ℕ). f (n + m)) d))
     (side-recurrence f n row (suc col) ls b
     (λ j k.
     let g : suc (length ls) - suc (suc j) ≡ length ls - suc j = omega arith in
@@ -159,7 +160,8 @@ pub locator-none : (x : ℕ) → 1 ≡ value x (1 ∷ [])
 unfolding value power
 locator-none x = sym (xor-zero-r (mul 1 1) ∙ one-mul 1 (lit< tt))
 
-pub locator-more : (x : ℕ) (ls : List ℕ) (j s p : ℕ) → x < 128 → j < length ls → getD ls j 0 < 128 → s ≡ value x (1 ∷ take j ls) → p ≡ mul x s
+pub locator-more : (x : ℕ) (ls : List ℕ) (j s p : ℕ) → x < 128 → j < length ls → getD ls j 0 < 128 → s ≡ value x (1 ∷ take j ls)
+    → p ≡ mul x s
     → bitXor p (getD ls j 0) ≡ value x (1 ∷ take (j + 1) ls)
 locator-more x ls j s p hx h hl e f =
     ap (λ (z : ℕ). bitXor z (getD ls j 0)) (f ∙ ap (mul x) e) ∙ sym (value-push x (1 ∷ take j ls) (getD ls j 0) hx hl)

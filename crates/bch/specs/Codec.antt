@@ -22,6 +22,7 @@ encoded d = cond (areBits d) (Ok (encode d)) (Err NotBits)
 abbrev pub corrected : List ℕ → List ℕ → Corrected
 corrected w c = record { codeword = c; places = distance w c }
 
+-- what the decoder answers when the search found this
 abbrev pub found : List ℕ → Option (List ℕ) → Result Corrected CodeRefusal
 found w (Some c) = Ok (corrected w c)
 found w None = Err NoCodeword

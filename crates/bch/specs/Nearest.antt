@@ -2,14 +2,13 @@
 -- ever evaluates it; its laws say what it answers.
 use mathlib.Core.Path.{_≡_}
 use mathlib.Core.Logic.{_↔_}
-use mathlib.Core.Bool.{Bool, true, cond}
+use mathlib.Core.Bool.{Bool, cond}
 use mathlib.Core.List.{List, [], _∷_, _++_, map}
 use Prim.Native.Nat.{ℕ, zero, suc, _-_, _≤_}
 use lib.Dec.{eqb}
-use lib.ListN.{length, take}
+use lib.ListN.{take}
 use Rattle.std.specs.declared.option.Option.{Option}
 use Rattle.std.specs.declared.option.Option.the-variants.{Some, None}
-use Rattle.coding.specs.Bits.{areBits}
 use Rattle.coding.specs.Distance.{distance}
 use Rattle.field.specs.Code.{encode, Codeword}
 
@@ -28,6 +27,7 @@ unfoldable pub first : (List ℕ → Bool) → List (List ℕ) → Option (List 
 first p [] = None
 first p (w ∷ ws) = cond (p w) (Some w) (first p ws)
 
+-- the codeword within six places
 unfoldable pub nearest : List ℕ → Option (List ℕ)
 nearest w = first reEncodes (ball 6 w)
 

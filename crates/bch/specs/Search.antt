@@ -6,8 +6,11 @@ use Prim.Native.Nat.{ℕ, suc, _+_, _-_, _<_}
 use lib.Bits.{bitXor}
 use lib.ListN.{getD, take, drop}
 use Rattle.coding.specs.Bits.{bits, number}
+use Rattle.coding.specs.Distance.{distance}
 use Rattle.field.specs.Field.{exp, value}
 use Rattle.field.specs.Code.{parity}
+use Rattle.bch.specs.declared.word.Corrected.{Corrected}
+use Rattle.bch.specs.Nearest.{Near}
 
 -- the remainder of a received word by the generator: the parity that its data ask for and the parity that came, added
 abbrev pub leftover : List ℕ → ℕ
@@ -21,3 +24,11 @@ Syndromes r s = (k : ℕ) → 0 < k → k < 13 → getD s k 0 ≡ value (exp k) 
 pub record Equation (s : List ℕ) (n v : ℕ) (row : List ℕ) : Type 0 where
   pub coefficient : (j : ℕ) → j < v → getD row j 0 ≡ getD s (n + (v - suc j)) 0
   pub constant : getD row v 0 ≡ getD s (n + v) 0
+
+-- a is a codeword within six places of w, with its distance
+abbrev pub Corrects : List ℕ → Corrected → Type 0
+Corrects w a = Near w (a .codeword) × (a .places ≡ distance w (a .codeword))
+
+-- no codeword within six places of w is at the distance v
+abbrev pub NoneAt : List ℕ → ℕ → Type 0
+NoneAt w v = (c : List ℕ) → Near w c → v ≡ distance w c → ⊥

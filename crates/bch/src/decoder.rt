@@ -15,18 +15,20 @@ use field::times_c;
 use solver::solve;
 ghost use mathlib.Core.Path.{_≡_};
 ghost use mathlib.Core.Bool.{true, cond};
-ghost use mathlib.Core.List.{List, [], _∷_};
-ghost use Prim.Native.Nat.{ℕ, _+_, _-_, _^_, _<_, _≤_};
+ghost use mathlib.Core.List.{[], _∷_};
+ghost use Prim.Native.Nat.{ℕ, _+_, _-_, _<_, _≤_};
 ghost use lib.Dec.{eqb};
 ghost use lib.ListN.{length, getD, take};
 ghost use Rattle.std.specs.declared.option.Option.the-variants.{Some, None};
 ghost use Rattle.coding.specs.Bits.{areBits, bits, number as numberOf};
-ghost use Rattle.coding.specs.Distance.{distance as apart};
 ghost use Rattle.field.specs.Field.{value};
 ghost use Rattle.field.specs.Locator.{flipped as flippedAt, isRoot};
 ghost use Rattle.bch.specs.Nearest.{nearest, Near, Finds};
 ghost use Rattle.bch.specs.Codec.{found, decoded};
-ghost use Rattle.bch.specs.Search.{leftover, Syndromes, Equation};
+ghost use Rattle.bch.specs.Search.{leftover, Syndromes, Equation, Corrects, NoneAt};
+
+/// How many errors are corrected.
+const RADIUS: usize = 6;
 
 /// The codeword within six places of 111 received bits, and in how many places they differ from it.
 pub fn decode(received: &[u8; 111]) -> Result<Corrected, CodeRefusal>
@@ -53,7 +55,7 @@ fn search(received: &[u8; 111], s: &[u8; 13]) -> Result<Corrected, CodeRefusal>
     requires syndromes { ⌜ Syndromes (leftover (now received)) (now s) ⌝ }
     ensures { λ r. ⌜ r ≡ found (now (received .entry)) (nearest (now (received .entry))) ⌝ }
 {
-    for v in 1..7usize {
+    for v in 1..=RADIUS {
         if let Some(corrected) = attempt(received, s, v) {
             return Ok(corrected);
         }
@@ -66,8 +68,8 @@ fn attempt(received: &[u8; 111], s: &[u8; 13], v: usize) -> Option<Corrected>
     requires bits { ⌜ areBits (now received) ≡ true ⌝ }
     requires syndromes { ⌜ Syndromes (leftover (now received)) (now s) ⌝ }
     requires few { ⌜ v ≤ 6 ⌝ }
-    ensures some { λ r. ⌜ ((a : Corrected) → r ≡ Some a → Near (now (received .entry)) (a .codeword) × (a .places ≡ apart (now (received .entry)) (a .codeword))) ⌝ }
-    ensures none { λ r. ⌜ (r ≡ None → (w : List ℕ) → Near (now (received .entry)) w → v ≡ apart (now (received .entry)) w → ⊥) ⌝ }
+    ensures some { λ r. ⌜ ((a : Corrected) → r ≡ Some a → Corrects (now (received .entry)) a) ⌝ }
+    ensures none { λ r. ⌜ (r ≡ None → NoneAt (now (received .entry)) v) ⌝ }
 {
     let locator = solve(&key_equations(s, v), v)?;
     accepted(received, &flipped(received, &locator, v))
@@ -76,20 +78,28 @@ fn attempt(received: &[u8; 111], s: &[u8; 13], v: usize) -> Option<Corrected>
 /// A word with its distance from the received word, if it is a codeword within six places.
 fn accepted(received: &[u8; 111], word: &[u8; 111]) -> Option<Corrected>
     requires { ⌜ areBits (now word) ≡ true ⌝ }
-    ensures some { λ r. ⌜ ((a : Corrected) → r ≡ Some a → Near (now (received .entry)) (a .codeword) × (a .places ≡ apart (now (received .entry)) (a .codeword))) ⌝ }
+    ensures some { λ r. ⌜ ((a : Corrected) → r ≡ Some a → Corrects (now (received .entry)) a) ⌝ }
     ensures none { λ r. ⌜ (r ≡ None → Near (now (received .entry)) (now (word .entry)) → ⊥) ⌝ }
 {
-    if remainder(word) != 0 {
+    if !is_codeword(word) {
         return None;
     }
     let places = distance(received, word);
-    if places > 6 {
+    if places > RADIUS {
         return None;
     }
     Some(Corrected {
         codeword: *word,
         places: places as u8,
     })
+}
+
+/// Whether a word of bits is a codeword.
+fn is_codeword(word: &[u8; 111]) -> bool
+    requires { ⌜ areBits (now word) ≡ true ⌝ }
+    ensures { λ r. ⌜ r ≡ eqb (leftover (now (word .entry))) 0 ⌝ }
+{
+    remainder(word) == 0
 }
 
 /// The remainder of a word by the generator: the parity that its data ask for and the parity that came, added.

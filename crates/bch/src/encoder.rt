@@ -7,8 +7,9 @@ ghost use mathlib.Core.Bool.{true};
 ghost use mathlib.Core.List.{List, _++_};
 ghost use Prim.Native.Nat.{ℕ, suc, _*_, _^_, _<_, _≤_};
 ghost use lib.Bits.{bitXor};
-ghost use Rattle.std.specs.declared.result.Result.the-variants.{Ok, Err};
-ghost use Rattle.coding.specs.Bits.{areBits, bits};
+ghost use lib.ListN.{drop};
+ghost use Rattle.std.specs.declared.result.Result.the-variants.{Ok};
+ghost use Rattle.coding.specs.Bits.{areBits, bits, number};
 ghost use Rattle.coding.specs.Distance.{distance};
 ghost use Rattle.coding.specs.Polynomial.{reduced, OnlyRemainder};
 ghost use Rattle.field.specs.Field.{exp, value};
@@ -21,11 +22,11 @@ const GENERATOR: u64 = 0b111_1011_0010_1011_1110_0101_1010_1111_0011_0111_0111;
 /// x^42.
 const TOP: u64 = 0x400_0000_0000;
 
-/// The codeword of 69 data bits. Its parity is the one remainder by the generator, c to c^12 are its roots, and no other
-/// codeword lies within 12 places.
+/// The codeword of 69 data bits. Its last 42 bits are the one remainder by the generator, c to c^12 are its roots, and no
+/// other codeword lies within 12 places.
 pub fn encode(data: &[u8; 69]) -> Result<[u8; 111], CodeRefusal>
     ensures is { λ r. ⌜ r ≡ encoded (now («data» .entry)) ⌝ }
-    ensures only { λ _. ⌜ (areBits (now («data» .entry)) ≡ true → OnlyRemainder 42 generator 0 (now («data» .entry)) (parityOf (now («data» .entry)))) ⌝ }
+    ensures only { λ r. ⌜ ((w : List ℕ) → r ≡ Ok w → OnlyRemainder 42 generator 0 (now («data» .entry)) (number (drop 69 w))) ⌝ }
     ensures roots { λ r. ⌜ ((w : List ℕ) → r ≡ Ok w → (i : ℕ) → i < 12 → value (exp (suc i)) w ≡ 0) ⌝ }
     ensures far { λ r. ⌜ ((w v : List ℕ) → r ≡ Ok w → Codeword v → distance w v ≤ 12 → w ≡ v) ⌝ }
 {

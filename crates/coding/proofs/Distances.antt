@@ -3,13 +3,12 @@ use mathlib.Core.Path.{_≡_, refl, sym, ap, ap₂, _∙_}
 use mathlib.Core.Logic.{_⊎_, inl, inr}
 use mathlib.Core.Bool.{Bool, true, false, cond}
 use mathlib.Core.List.{List, [], _∷_, _++_}
-use Prim.Native.Nat.{ℕ, zero, suc, _+_, _-_, _<_, _≤_, min, max}
-use native.Mathlib.Numerals.{add-one}
+use Prim.Native.Nat.{ℕ, suc, _+_, _-_, _<_, _≤_, min, max}
 use native.Mathlib.Omega.{arith}
 use lib.Dec.{eqb}
 use lib.ListN.{length, drop, getD, length-drop}
 use Rattle.std.proofs.shelf.Lists.{drop-more, drop-all}
-use Rattle.std.proofs.shelf.Tests.{eq-eqb, ne-eqb, eqb-true, eqb-false, both-ways, cases-lt}
+use Rattle.std.proofs.shelf.Tests.{eq-eqb, ne-eqb, eqb-true, both-ways, cases-lt}
 use Rattle.coding.specs.Distance.{distance}
 
 pub distance-none : (ys : List ℕ) → distance [] ys ≡ length ys
@@ -105,7 +104,8 @@ pub distance-rest : (a b : List ℕ) (i : ℕ) → i ≡ min (length a) (length 
     → distance (drop i a) (drop i b) ≡ max (length a) (length b) - min (length a) (length b)
 distance-rest a b i e = by (cases-lt (length a) (length b))
   where
-    by : (length a < length b) ⊎ (length b ≤ length a) → distance (drop i a) (drop i b) ≡ max (length a) (length b) - min (length a) (length b)
+    by : (length a < length b) ⊎ (length b ≤ length a)
+        → distance (drop i a) (drop i b) ≡ max (length a) (length b) - min (length a) (length b)
     by (inl l) =
         ap (λ (z : List ℕ). distance z (drop i b)) (drop-all i a (omega arith)) ∙ distance-none (drop i b) ∙ simp length-drop (omega arith)
     by (inr l) = ap (distance (drop i a)) (drop-all i b (omega arith)) ∙ distance-none-right (drop i a) ∙ simp length-drop (omega arith)

@@ -6,7 +6,6 @@ use native.Mathlib.Nat.{div-lt-iff-lt-mul, div-eq-of-lt-le, pow-suc}
 use native.Mathlib.Omega.{arith}
 use lib.Pow.{pow-pos}
 use lib.Bits.{bitAnd, bitXor, and-mask, xor-shr}
-use lib.Dec.{ltb}
 use lib.ListN.{length, drop, getD}
 use Rattle.std.proofs.shelf.Lists.{drop-more, drop-all}
 use Rattle.std.proofs.shelf.Tests.{cond-below, cond-above}
@@ -51,7 +50,8 @@ remainder-append n g r [] ys = refl
 remainder-append n g r (x ∷ xs) ys = remainder-append n g (reduced n g (bitXor (r * 2) (x * 2 ^ n))) xs ys
 
 -- of the i low bits of x the highest is brought down
-pub remainder-bit : (n g r x i y : ℕ) → 0 < i → y ≡ reduced n g (bitXor (r * 2) (bitAnd (x / 2 ^ (i - 1)) 1 * 2 ^ n)) → remainder n g y (bits (i - 1) x) ≡ remainder n g r (bits i x)
+pub remainder-bit : (n g r x i y : ℕ) → 0 < i → y ≡ reduced n g (bitXor (r * 2) (bitAnd (x / 2 ^ (i - 1)) 1 * 2 ^ n))
+    → remainder n g y (bits (i - 1) x) ≡ remainder n g r (bits i x)
 remainder-bit n g r x zero y h e = absurd (omega arith)
 remainder-bit n g r x (suc i) y h e =
     let j : suc i - 1 ≡ i = omega arith in

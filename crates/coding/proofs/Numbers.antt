@@ -1,18 +1,17 @@
 -- Words of bits and the numbers that they write.
-use mathlib.Core.Path.{_≡_, refl, sym, ap, ap₂, subst, _∙_}
+use mathlib.Core.Path.{_≡_, refl, sym, ap, ap₂, _∙_}
 use mathlib.Core.Bool.{true}
 use mathlib.Core.List.{List, [], _∷_}
 use Prim.Native.Nat.{ℕ, zero, suc, _+_, _*_, _/_, _%_, _^_, _<_, _≤_}
 use native.Mathlib.Nat.{add-mul, add-assoc, mul-assoc, mul-comm, pow-suc, mod-eq-of-lt, zero-add}
-use native.Mathlib.Numerals.{add-one, one-add}
+use native.Mathlib.Numerals.{one-add}
 use native.Mathlib.Omega.{arith}
-use lib.Pow.{pow-pos}
 use lib.Dec.{lit<}
 use lib.ListN.{length, drop, getD}
 use Rattle.std.proofs.shelf.Bits.{mod-pow-add, shr-high}
 use Rattle.std.proofs.shelf.Lists.{at-drop-more, at-drop-all}
 use Rattle.coding.specs.Bits.{areBits, bits, numberAfter, number}
-use Rattle.coding.proofs.Words.{bits-parts, bits-none}
+use Rattle.coding.proofs.Words.{bits-parts}
 
 -- one more bit before n others
 shifted : (x b n : ℕ) → (x * 2 + b) * 2 ^ n ≡ x * 2 ^ suc n + b * 2 ^ n

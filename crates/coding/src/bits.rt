@@ -1,7 +1,6 @@
 //! Words of bits: one bit in an octet, 0 or 1.
 
 ghost use mathlib.Core.Path.{_≡_};
-ghost use Prim.Native.Nat.{ℕ};
 ghost use Rattle.coding.specs.Bits.{areBits};
 ghost use Rattle.coding.specs.Distance.{distance as apart};
 

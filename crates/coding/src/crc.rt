@@ -3,7 +3,7 @@
 use crate::bits::are_bits;
 ghost use mathlib.Core.Path.{_≡_};
 ghost use mathlib.Core.Bool.{cond, true};
-ghost use Prim.Native.Nat.{ℕ, _<_, _≤_, _*_, _^_};
+ghost use Prim.Native.Nat.{ℕ, _<_, _*_, _^_};
 ghost use lib.Bits.{bitXor};
 ghost use Rattle.std.specs.declared.option.Option.the-variants.{Some, None};
 ghost use Rattle.coding.specs.Bits.{areBits, bits as bitsOf, octetBits};

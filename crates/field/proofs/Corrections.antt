@@ -1,5 +1,5 @@
 -- The errors of a received word are the roots of every solution of the key equations.
-use mathlib.Core.Path.{_≡_, refl, sym, ap, ap₂, subst, _∙_}
+use mathlib.Core.Path.{_≡_, refl, sym, ap, ap₂, _∙_}
 use mathlib.Core.Logic.{_⊎_, inl, inr, ⊎-elim}
 use mathlib.Core.Bool.{Bool, true, false, cond}
 use mathlib.Core.List.{List, [], _∷_, map}
@@ -13,12 +13,12 @@ use Rattle.coding.specs.Bits.{areBits}
 use Rattle.coding.specs.Distance.{distance}
 use Rattle.coding.proofs.Words.{bits-parts}
 use Rattle.field.specs.Field.{mul, exp, value}
-use Rattle.field.specs.Code.{Codeword}
 use Rattle.field.specs.Locator.{syndrome, recurrence, KeyEquations, isRoot, flipped, Received, LocatorLaws}
 use Rattle.field.proofs.Elements.{exp-small}
-use Rattle.field.proofs.PowerSums.{Each, Distinct, Nonzero, each-map, powerSum}
+use Rattle.field.proofs.PowerSums.{Each, Nonzero, each-map, powerSum}
 use Rattle.field.proofs.Roots.{roots}
-use Rattle.field.proofs.Differences.{differences, distance-differences, value-differences, placeSum-powerSum, differences-below, differences-distinct, distinct-exp, nonzero-exp, word-length, word-bits}
+use Rattle.field.proofs.Differences.{differences, distance-differences, value-differences, placeSum-powerSum, differences-below}
+use Rattle.field.proofs.Differences.{differences-distinct, distinct-exp, nonzero-exp, word-length, word-bits}
 use Rattle.field.proofs.Locators.{locates, locator, few-roots}
 
 -- ---- flipping at the differences makes one word of the other
@@ -41,7 +41,8 @@ among-below p n (x ∷ xs) h m = ⊎-elim (λ e. let k : x < n = h .0 in omega a
 
 module _ (f : ℕ → Bool) where
   flipped-differences : (us vs : List ℕ) → areBits us ≡ true → areBits vs ≡ true → length us ≡ length vs
-      → Each (λ p. f p ≡ true) (differences us vs) → ((p : ℕ) → p < length us → f p ≡ true → Among p (differences us vs)) → flipped f us ≡ vs
+      → Each (λ p. f p ≡ true) (differences us vs) → ((p : ℕ) → p < length us → f p ≡ true → Among p (differences us vs))
+      → flipped f us ≡ vs
   unfolding flipped differences
   flipped-differences [] [] hu hv e h k = refl
   flipped-differences [] (v ∷ vs) hu hv e h k = absurd (omega arith)
@@ -58,13 +59,15 @@ module _ (f : ℕ → Bool) where
       ds : List ℕ
       ds = differences us vs
 
-      by : (t : Bool) → eqb u v ≡ t → u < 2 → v < 2 → Each (λ p. f p ≡ true) (cond t ds (n ∷ ds)) → (f n ≡ true → Among n (cond t ds (n ∷ ds)))
+      by : (t : Bool) → eqb u v ≡ t → u < 2 → v < 2 → Each (λ p. f p ≡ true) (cond t ds (n ∷ ds))
+          → (f n ≡ true → Among n (cond t ds (n ∷ ds)))
           → ((p : ℕ) → p < n → f p ≡ true → Among p (cond t ds (n ∷ ds)))
           → (Each (λ p. f p ≡ true) ds → ((p : ℕ) → p < n → f p ≡ true → Among p ds) → flipped f us ≡ vs)
           → cond (f n) (1 - u) u ∷ flipped f us ≡ v ∷ vs
       by true q hu hv h here below rest =
           let off : f n ≡ false =
-          ⊎-elim (λ t. let l : n < n = among-below n n ds (differences-below us vs) (here t) in absurd (omega arith)) (λ o. o) (cases-bool (f n))
+          ⊎-elim (λ t. let l : n < n = among-below n n ds (differences-below us vs) (here t) in absurd (omega arith)) (λ o. o)
+          (cases-bool (f n))
           in
           ap₂ (λ (x : ℕ) (xs : List ℕ). x ∷ xs) (cond-false (f n) (1 - u) u off ∙ eqb-true u v q) (rest h below)
       by false q hu hv h here below rest =
@@ -74,7 +77,8 @@ module _ (f : ℕ → Bool) where
           (rest (h .1) (λ p l t. ⊎-elim (λ z. absurd (omega arith)) (λ m. m) (below p l t)))
 
 -- ---- the syndromes are the power sums of the errors
-recurrence-same : (s t : ℕ → ℕ) (n : ℕ) (ls : List ℕ) → ((m : ℕ) → n ≤ m → m < n + length ls → s m ≡ t m) → recurrence s n ls ≡ recurrence t n ls
+recurrence-same : (s t : ℕ → ℕ) (n : ℕ) (ls : List ℕ) → ((m : ℕ) → n ≤ m → m < n + length ls → s m ≡ t m)
+    → recurrence s n ls ≡ recurrence t n ls
 unfolding recurrence
 recurrence-same s t n [] h = refl
 recurrence-same s t n (l ∷ ls) h =
@@ -117,7 +121,8 @@ module _ (r w : List ℕ) (c : Received r w) where
     -- each error is a root
     all-roots : Each (λ x. value x (1 ∷ ls) ≡ 0) (map exp (differences r w))
     all-roots =
-        locates (map exp (differences r w)) (distinct-exp (differences r w) below127 (differences-distinct r w)) (nonzero-exp (differences r w)) (1 ∷ ls)
+        locates (map exp (differences r w)) (distinct-exp (differences r w) below127 (differences-distinct r w))
+        (nonzero-exp (differences r w)) (1 ∷ ls)
         (λ i h.
         let k : i < distance r w = omega (arith, length-map (differences r w) exp, count) in
         sym (syndrome-recurrence i (1 ∷ ls) (omega (arith, key .degree, c .near))) ∙ key .equations i k)

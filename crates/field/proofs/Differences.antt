@@ -1,8 +1,8 @@
 -- The places at which two words differ, and the minimum distance of the code.
-use mathlib.Core.Path.{_≡_, refl, sym, ap, ap₂, subst, _∙_}
+use mathlib.Core.Path.{_≡_, refl, sym, ap, ap₂, _∙_}
 use mathlib.Core.Bool.{Bool, true, false, cond}
-use mathlib.Core.List.{List, [], _∷_, _++_, map}
-use Prim.Native.Nat.{ℕ, zero, suc, _+_, _<_, _≤_}
+use mathlib.Core.List.{List, [], _∷_, map}
+use Prim.Native.Nat.{ℕ, zero, suc, _+_, _<_}
 use native.Mathlib.Omega.{arith}
 use lib.Dec.{eqb, lit<}
 use lib.ListN.{length, length-append, length-map, getD}
@@ -65,7 +65,8 @@ value-differences a (u ∷ us) (v ∷ vs) hu hv e =
     let l : length us ≡ length vs = omega arith in
     ap (λ (n : ℕ). bitXor (bitXor (mul u (power a (length us))) (value a us)) (bitXor (mul v (power a n)) (value a vs))) (sym l)
     ∙ xor-swap (mul u (power a (length us))) (value a us) (mul v (power a (length us))) (value a vs)
-    ∙ ap₂ bitXor (bit-sum u v (power a (length us)) (pu .0) (pv .0) (power-small a (length us))) (value-differences a us vs (pu .1) (pv .1) l)
+    ∙ ap₂ bitXor (bit-sum u v (power a (length us)) (pu .0) (pv .0) (power-small a (length us)))
+    (value-differences a us vs (pu .1) (pv .1) l)
     ∙ by (eqb u v) (length us) (differences us vs)
   where
     by : (t : Bool) (n : ℕ) (ps : List ℕ) → bitXor (cond t 0 (power a n)) (placeSum a ps) ≡ placeSum a (cond t ps (n ∷ ps))
@@ -169,7 +170,8 @@ far u v cu cv near =
     in
     distance-zero u v
     (n ∙ none-left (differences u v)
-    (vandermonde (map exp (differences u v)) (distinct-exp (differences u v) below (differences-distinct u v)) (nonzero-exp (differences u v))
+    (vandermonde (map exp (differences u v)) (distinct-exp (differences u v) below (differences-distinct u v))
+    (nonzero-exp (differences u v))
     (λ x. 1) (λ x. lit< tt) sums))
 
 pub code-laws : CodeLaws

@@ -2,9 +2,9 @@
 -- from those of sums of exponents.
 use mathlib.Core.Path.{_≡_, refl, sym, ap, ap₂, subst, _∙_}
 use mathlib.Core.Logic.{_⊎_, inl, inr, ⊎-elim}
-use mathlib.Core.Bool.{Bool, true, false, _&&_}
+use mathlib.Core.Bool.{Bool, true, _&&_}
 use mathlib.Core.List.{List, [], _∷_}
-use Prim.Native.Nat.{ℕ, zero, suc, _+_, _*_, _/_, _%_, _^_, _<_, _≤_}
+use Prim.Native.Nat.{ℕ, zero, suc, _+_, _*_, _/_, _%_, _<_}
 use native.Mathlib.Nat.{mod-lt, mod-eq-of-lt, add-comm, suc-add, zero-add, mul-comm, mul-suc, mul-zero}
 use native.Mathlib.Omega.{arith}
 use lib.Dec.{eqb, ltb, lit<}
@@ -170,7 +170,8 @@ mul-zero′ x y e = ap (λ (z : ℕ). shiftAdd 7 z (y % 128)) e ∙ shiftAdd-zer
 
 pub mul-exp′ : (x y k : ℕ) → x % 128 ≡ exp k → mul x y ≡ byPower k (y % 128)
 unfolding mul exp
-mul-exp′ x y k e = ap (λ (z : ℕ). shiftAdd 7 z (y % 128)) e ∙ shiftAdd-byPower k 7 1 (y % 128) ∙ ap (byPower k) (shiftAdd-one (y % 128) (mod-lt y (lit< tt)))
+mul-exp′ x y k e = ap (λ (z : ℕ). shiftAdd 7 z (y % 128)) e ∙ shiftAdd-byPower k 7 1 (y % 128)
+    ∙ ap (byPower k) (shiftAdd-one (y % 128) (mod-lt y (lit< tt)))
 
 pub cases : (x : ℕ) → (x % 128 ≡ 0) ⊎ ((k : ℕ) × (x % 128 ≡ exp k))
 cases x = logged (x % 128) (mod-lt x (lit< tt))
@@ -184,7 +185,8 @@ exp-mod k = mod-eq-of-lt (exp-small k)
 pub mul-small : (x y : ℕ) → mul x y < 128
 mul-small x y =
     ⊎-elim (λ e. subst (λ (n : ℕ). n < 128) (sym (mul-zero′ x y e)) (lit< tt))
-    (λ (p : (k : ℕ) × (x % 128 ≡ exp k)). subst (λ (n : ℕ). n < 128) (sym (mul-exp′ x y (p .0) (p .1))) (byPower-small (p .0) (y % 128) (mod-lt y (lit< tt))))
+    (λ (p : (k : ℕ) × (x % 128 ≡ exp k)). subst (λ (n : ℕ). n < 128) (sym (mul-exp′ x y (p .0) (p .1)))
+    (byPower-small (p .0) (y % 128) (mod-lt y (lit< tt))))
     (cases x)
 
 pub dist : (x y z : ℕ) → mul x (bitXor y z) ≡ bitXor (mul x y) (mul x z)
@@ -222,7 +224,8 @@ assoc x y z =
     ⊎-elim (λ e. mul-zero′ (mul x y) z (ap (λ (n : ℕ). n % 128) (mul-zero′ x y e)) ∙ sym (mul-zero′ x (mul y z) e))
     (λ (p : (k : ℕ) × (x % 128 ≡ exp k)).
     ⊎-elim
-    (λ e. mul-zero′ (mul x y) z (ap (λ (n : ℕ). n % 128) (mul-zero-r′ x y e)) ∙ sym (mul-zero-r′ x (mul y z) (ap (λ (n : ℕ). n % 128) (mul-zero′ y z e))))
+    (λ e. mul-zero′ (mul x y) z (ap (λ (n : ℕ). n % 128) (mul-zero-r′ x y e))
+    ∙ sym (mul-zero-r′ x (mul y z) (ap (λ (n : ℕ). n % 128) (mul-zero′ y z e))))
     (λ (q : (k : ℕ) × (y % 128 ≡ exp k)).
     mul-exp′ (mul x y) z (p .0 + q .0) (small-mod (mul x y) (mul-small x y) ∙ mul-exps x y (p .0) (q .0) (p .1) (q .1))
     ∙ sym (byPower-add (p .0) (q .0) (z % 128))

@@ -1,7 +1,7 @@
 -- Error locators: polynomials in x over GF(128) whose roots are the locators of the errors.
 use mathlib.Core.Path.{_≡_, refl, sym, ap, ap₂, _∙_}
 use mathlib.Core.List.{List, [], _∷_}
-use Prim.Native.Nat.{ℕ, zero, suc, _+_, _<_, _≤_}
+use Prim.Native.Nat.{ℕ, suc, _+_, _<_, _≤_}
 use native.Mathlib.Omega.{arith}
 use lib.Dec.{lit<}
 use lib.ListN.{length}
@@ -9,7 +9,8 @@ use lib.Bits.{bitXor, xor-assoc, xor-self, xor-lt, xor-zero-r}
 use Rattle.coding.proofs.Sums.{xor-swap, xor-same}
 use Rattle.field.specs.Field.{mul, power, value}
 use Rattle.field.specs.Locator.{recurrence}
-use Rattle.field.proofs.Elements.{comm, assoc, dist, mul-small, one-mul, zero-r, zero-l, dist-l, power-small, power-add, cancel, ring, ring-zero}
+use Rattle.field.proofs.Elements.{comm, assoc, dist, mul-small, one-mul, zero-r, zero-l, dist-l, power-small, power-add, cancel, ring}
+use Rattle.field.proofs.Elements.{ring-zero}
 use Rattle.field.proofs.PowerSums.{Each, Distinct, Nonzero, each-map, each-with, powerSum, powerSum-zero, vandermonde}
 
 powerSum-nought : (xs : List ℕ) (n : ℕ) (k : ℕ → ℕ) → ((x : ℕ) → k x ≡ 0) → powerSum k xs n ≡ 0
@@ -32,14 +33,16 @@ powerSum-scale l m n [] = zero-r l
 powerSum-scale l m n (x ∷ xs) =
     dist l (mul 1 (power x (n + m))) (powerSum (λ x. 1) xs (n + m))
     ∙ ap₂ bitXor
-    (ap (mul l) (one-mul (power x (n + m)) (power-small x (n + m)) ∙ power-add x n m ∙ comm (power x n) (power x m)) ∙ sym (assoc l (power x m) (power x n)))
+    (ap (mul l) (one-mul (power x (n + m)) (power-small x (n + m)) ∙ power-add x n m ∙ comm (power x n) (power x m))
+    ∙ sym (assoc l (power x m) (power x n)))
     (powerSum-scale l m n xs)
 
 recurrence-powerSum : (xs : List ℕ) (n : ℕ) (ls : List ℕ) → recurrence (powerSum (λ x. 1) xs) n ls ≡ powerSum (λ x. value x ls) xs n
 unfolding recurrence value
 recurrence-powerSum xs n [] = sym (powerSum-nought xs n (λ x. 0) (λ x. refl))
 recurrence-powerSum xs n (l ∷ ls) =
-    ap₂ bitXor (powerSum-scale l (length ls) n xs) (recurrence-powerSum xs n ls) ∙ sym (powerSum-plus (λ x. mul l (power x (length ls))) (λ x. value x ls) xs n)
+    ap₂ bitXor (powerSum-scale l (length ls) n xs) (recurrence-powerSum xs n ls)
+    ∙ sym (powerSum-plus (λ x. mul l (power x (length ls))) (λ x. value x ls) xs n)
 
 pub value-small : (x : ℕ) (ls : List ℕ) → value x ls < 128
 unfolding value
@@ -73,7 +76,8 @@ byLinear-value : (c x p : ℕ) (ls : List ℕ) → value x (p ∷ byLinear c p l
 unfolding byLinear value power
 byLinear-value c x p [] = byLinear-last p x c 1
 byLinear-value c x p (l ∷ ls) =
-    ap (λ (m : ℕ). bitXor (mul p (mul x (power x m))) (bitXor (mul (bitXor l (mul c p)) (power x m)) (value x (byLinear c l ls)))) (byLinear-length c l ls)
+    ap (λ (m : ℕ). bitXor (mul p (mul x (power x m))) (bitXor (mul (bitXor l (mul c p)) (power x m)) (value x (byLinear c l ls))))
+    (byLinear-length c l ls)
     ∙ byLinear-sorted p l c x (mul x (power x (length ls))) (value x (byLinear c l ls))
     ∙ ap (bitXor (mul (bitXor x c) (mul p (mul x (power x (length ls))))))
     (ap (λ (m : ℕ). bitXor (mul l (power x m)) (value x (byLinear c l ls))) (sym (byLinear-length c l ls)) ∙ byLinear-value c x l ls)
@@ -98,7 +102,8 @@ unfolding product
 product-roots [] = tt
 product-roots (x ∷ xs) = (
   byLinear-value x x 1 (product xs) ∙ ap (λ (z : ℕ). mul z (value x (1 ∷ product xs))) (xor-self x) ∙ zero-l (value x (1 ∷ product xs)),
-  each-map (λ y. value y (1 ∷ product xs) ≡ 0) (λ y. value y (1 ∷ byLinear x 1 (product xs)) ≡ 0) xs (λ y e. product-more x y xs e) (product-roots xs),
+  each-map (λ y. value y (1 ∷ product xs) ≡ 0) (λ y. value y (1 ∷ byLinear x 1 (product xs)) ≡ 0) xs (λ y e. product-more x y xs e)
+      (product-roots xs),
 )
 
 -- there is a monic polynomial of as many coefficients whose recurrence the power sums obey everywhere: the locator
@@ -133,17 +138,21 @@ unfolding quotient rest value power
 quotient-value a x p [] = xor-zero-r (mul p 1) ∙ ap (λ (z : ℕ). bitXor z (mul p 1)) (sym (zero-r (bitXor x a)))
 quotient-value a x p (l ∷ ls) =
     quotient-sorted x a p l (power x (length ls)) (value x ls)
-    ∙ ap₂ bitXor (ap (λ (m : ℕ). mul (bitXor x a) (mul p (power x m))) (sym (quotient-length a (bitXor l (mul a p)) ls))) (quotient-value a x (bitXor l (mul a p)) ls)
-    ∙ sym (xor-assoc (mul (bitXor x a) (mul p (power x (length (quotient a (bitXor l (mul a p)) ls))))) (mul (bitXor x a) (value x (quotient a (bitXor l (mul a p)) ls))) (rest a (bitXor l (mul a p)) ls))
+    ∙ ap₂ bitXor (ap (λ (m : ℕ). mul (bitXor x a) (mul p (power x m))) (sym (quotient-length a (bitXor l (mul a p)) ls)))
+    (quotient-value a x (bitXor l (mul a p)) ls)
+    ∙ sym (xor-assoc (mul (bitXor x a) (mul p (power x (length (quotient a (bitXor l (mul a p)) ls)))))
+    (mul (bitXor x a) (value x (quotient a (bitXor l (mul a p)) ls))) (rest a (bitXor l (mul a p)) ls))
     ∙ ap (λ (z : ℕ). bitXor z (rest a (bitXor l (mul a p)) ls))
     (sym (dist (bitXor x a) (mul p (power x (length (quotient a (bitXor l (mul a p)) ls)))) (value x (quotient a (bitXor l (mul a p)) ls))))
 
 rest-root : (a p : ℕ) (ls : List ℕ) → value a (p ∷ ls) ≡ 0 → rest a p ls ≡ 0
 rest-root a p ls e =
-    ap (λ (z : ℕ). bitXor z (rest a p ls)) (sym (ap (λ (z : ℕ). mul z (value a (quotient a p ls))) (xor-self a) ∙ zero-l (value a (quotient a p ls))))
+    ap (λ (z : ℕ). bitXor z (rest a p ls))
+    (sym (ap (λ (z : ℕ). mul z (value a (quotient a p ls))) (xor-self a) ∙ zero-l (value a (quotient a p ls))))
     ∙ sym (quotient-value a a p ls) ∙ e
 
-root-more : (a y p : ℕ) (ls : List ℕ) → a < 128 → y < 128 → (a ≡ y → ⊥) → value a (p ∷ ls) ≡ 0 → value y (p ∷ ls) ≡ 0 → value y (quotient a p ls) ≡ 0
+root-more : (a y p : ℕ) (ls : List ℕ) → a < 128 → y < 128 → (a ≡ y → ⊥) → value a (p ∷ ls) ≡ 0 → value y (p ∷ ls) ≡ 0
+    → value y (quotient a p ls) ≡ 0
 root-more a y p ls ha hy n ea ey =
     cancel (value y (quotient a p ls)) (bitXor y a) (value-small y (quotient a p ls)) (xor-lt 7 y a hy ha) (λ z. n (sym (xor-same y a z)))
     (comm (value y (quotient a p ls)) (bitXor y a) ∙ sym (xor-zero-r (mul (bitXor y a) (value y (quotient a p ls))))
@@ -165,5 +174,6 @@ few-roots (a ∷ ys) distinct small (l ∷ ls) h =
     (λ y n e. root-more a y 1 (l ∷ ls) (small .0) (n .0) (n .1) (h .0) e)
     (each-with (λ y. y < 128) (λ y. a ≡ y → ⊥) (λ y. (y < 128) × (a ≡ y → ⊥)) ys (λ y s n. (s, n)) (small .1) (distinct .0)) (h .1)
     in
-    let k : length ys ≤ length (quotient a (bitXor l (mul a 1)) ls) = few-roots ys (distinct .1) (small .1) (quotient a (bitXor l (mul a 1)) ls) q in
+    let k : length ys ≤ length (quotient a (bitXor l (mul a 1)) ls) = few-roots ys (distinct .1) (small .1)
+    (quotient a (bitXor l (mul a 1)) ls) q in
     omega (arith, quotient-length a (bitXor l (mul a 1)) ls)

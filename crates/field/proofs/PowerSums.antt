@@ -3,7 +3,7 @@
 -- With k = 1 it is the minimum distance, with k = the value of a candidate locator it finds the errors among its roots.
 use mathlib.Core.Path.{_≡_, refl, sym, ap, ap₂, _∙_}
 use mathlib.Core.List.{List, [], _∷_}
-use Prim.Native.Nat.{ℕ, zero, suc, _<_}
+use Prim.Native.Nat.{ℕ, suc, _<_}
 use native.Mathlib.Omega.{arith}
 use lib.ListN.{length}
 use lib.Bits.{bitXor, xor-self, xor-lt, xor-zero-r}
@@ -44,7 +44,8 @@ less k x y = mul (k y) (bitXor y x)
 
 term : (kk x y p : ℕ) → bitXor (mul kk (mul y p)) (mul x (mul kk p)) ≡ mul (mul kk (bitXor y x)) p
 term kk x y p =
-    sym (assoc kk (bitXor y x) p ∙ ap (mul kk) (dist-l y x p) ∙ dist kk (mul y p) (mul x p) ∙ ap (bitXor (mul kk (mul y p))) (left-comm kk x p))
+    sym (assoc kk (bitXor y x) p ∙ ap (mul kk) (dist-l y x p) ∙ dist kk (mul y p) (mul x p)
+    ∙ ap (bitXor (mul kk (mul y p))) (left-comm kk x p))
 
 head-term : (k : ℕ → ℕ) (x y i : ℕ) → bitXor (mul (k y) (power y (suc i))) (mul x (mul (k y) (power y i))) ≡ mul (less k x y) (power y i)
 unfolding power less
@@ -58,9 +59,11 @@ shift k x (y ∷ ys) i =
     ∙ xor-swap (mul (k y) (power y (suc i))) (powerSum k ys (suc i)) (mul x (mul (k y) (power y i))) (mul x (powerSum k ys i))
     ∙ ap₂ bitXor (head-term k x y i) (shift k x ys i)
 
-gone : (k : ℕ → ℕ) (x : ℕ) (xs : List ℕ) (i : ℕ) → bitXor (powerSum k (x ∷ xs) (suc i)) (mul x (powerSum k (x ∷ xs) i)) ≡ powerSum (less k x) xs i
+gone : (k : ℕ → ℕ) (x : ℕ) (xs : List ℕ) (i : ℕ) → bitXor (powerSum k (x ∷ xs) (suc i)) (mul x (powerSum k (x ∷ xs) i)) ≡ powerSum
+    (less k x) xs i
 unfolding powerSum less
-gone k x xs i = shift k x (x ∷ xs) i ∙ ap (λ (n : ℕ). bitXor n (powerSum (less k x) xs i)) (ap (λ (n : ℕ). mul (mul (k x) n) (power x i)) (xor-self x) ∙ ap (λ (n : ℕ). mul n (power x i)) (zero-r (k x)) ∙ zero-l (power x i))
+gone k x xs i = shift k x (x ∷ xs) i ∙ ap (λ (n : ℕ). bitXor n (powerSum (less k x) xs i))
+    (ap (λ (n : ℕ). mul (mul (k x) n) (power x i)) (xor-self x) ∙ ap (λ (n : ℕ). mul n (power x i)) (zero-r (k x)) ∙ zero-l (power x i))
 
 pub powerSum-zero : (k : ℕ → ℕ) (xs : List ℕ) (i : ℕ) → Each (λ x. k x ≡ 0) xs → powerSum k xs i ≡ 0
 unfolding powerSum
@@ -84,7 +87,8 @@ less-small : (k : ℕ → ℕ) (x y : ℕ) → less k x y < 128
 unfolding less
 less-small k x y = mul-small (k y) (bitXor y x)
 
-eqs-rest : (k : ℕ → ℕ) (x : ℕ) (xs : List ℕ) (i : ℕ) → powerSum k (x ∷ xs) (suc i) ≡ 0 → powerSum k (x ∷ xs) i ≡ 0 → powerSum (less k x) xs i ≡ 0
+eqs-rest : (k : ℕ → ℕ) (x : ℕ) (xs : List ℕ) (i : ℕ) → powerSum k (x ∷ xs) (suc i) ≡ 0 → powerSum k (x ∷ xs) i ≡ 0
+    → powerSum (less k x) xs i ≡ 0
 eqs-rest k x xs i e f = sym (gone k x xs i) ∙ ap₂ bitXor e (ap (mul x) f ∙ zero-r x)
 
 pub vandermonde : (xs : List ℕ) → Distinct xs → Each Nonzero xs → (k : ℕ → ℕ) → ((x : ℕ) → k x < 128)

@@ -1,17 +1,18 @@
 -- Products by the tables.
-use mathlib.Core.Path.{_≡_, refl, sym, ap, ap₂, subst, _∙_}
+use mathlib.Core.Path.{_≡_, refl, sym, ap, subst, _∙_}
 use mathlib.Core.Bool.{Bool, true}
 use mathlib.Core.List.{List, [], _∷_}
-use Prim.Native.Nat.{ℕ, zero, suc, _+_, _-_, _*_, _/_, _%_, _<_, _≤_}
-use native.Mathlib.Nat.{mod-lt, mod-eq-of-lt}
+use Prim.Native.Nat.{ℕ, _+_, _-_, _*_, _/_, _%_, _<_}
+use native.Mathlib.Nat.{mod-eq-of-lt}
 use native.Mathlib.Omega.{arith}
 use lib.Bits.{bitXor}
-use lib.Dec.{eqb, lit<}
+use lib.Dec.{eqb}
 use lib.ListN.{getD}
 use Rattle.std.proofs.shelf.Tests.{eqb-true}
 use Rattle.field.specs.Field.{byC, byPower, mul, exp, power, inverse}
 use Rattle.field.proofs.Tables.{everyBelow, at-each}
-use Rattle.field.proofs.Elements.{byC-small, comm, assoc, mul-mod, mul-small, mul-zero′, mul-zero-r′, mul-exps, exp-add, exp-whole, exp-small, mul-one, one-mul, power-small, inverts}
+use Rattle.field.proofs.Elements.{byC-small, comm, assoc, mul-zero′, mul-zero-r′, mul-exps, exp-whole, exp-small, mul-one, one-mul}
+use Rattle.field.proofs.Elements.{power-small, inverts}
 
 -- the powers of c
 unfoldable pub powers : List ℕ

@@ -1,8 +1,8 @@
 -- The roots of the code: a root of the generator is a root of each codeword.
-use mathlib.Core.Path.{_≡_, refl, sym, ap, ap₂, subst, _∙_}
+use mathlib.Core.Path.{_≡_, refl, sym, ap, ap₂, _∙_}
 use mathlib.Core.Bool.{Bool, true}
 use mathlib.Core.List.{List, [], _∷_, _++_}
-use Prim.Native.Nat.{ℕ, zero, suc, _+_, _*_, _/_, _%_, _^_, _<_, _≤_}
+use Prim.Native.Nat.{ℕ, zero, suc, _*_, _/_, _%_, _^_, _<_, _≤_}
 use native.Mathlib.Nat.{pow-suc}
 use native.Mathlib.Numerals.{add-one}
 use native.Mathlib.Omega.{arith}
@@ -19,9 +19,9 @@ use Rattle.coding.proofs.Numbers.{bits-number}
 use Rattle.coding.proofs.Sums.{xor-swap}
 use Rattle.coding.proofs.Quotient.{division, reduced-is, reduced-small, brought, top-below}
 use Rattle.field.specs.Field.{byC, byPower, shiftAdd, mul, exp, power, value}
-use Rattle.field.specs.Code.{g4, generator, parity, encode, Codeword, Root-of-g4, Roots}
+use Rattle.field.specs.Code.{g4, generator, parity, encode, Root-of-g4, Roots}
 use Rattle.field.proofs.Tables.{everyBelow, at-each}
-use Rattle.field.proofs.Elements.{bit-cases, dist, mul-small, mul-one, one-mul, zero-r, zero-l, power-small, power-add, exp-small, ring}
+use Rattle.field.proofs.Elements.{bit-cases, dist, mul-small, mul-one, one-mul, zero-r, zero-l, power-add, exp-small, ring}
 
 -- ---- the value at a of the polynomial whose coefficients are the n low bits of a number
 pub evaluate : ℕ → ℕ → ℕ → ℕ
@@ -128,7 +128,8 @@ module _ (n g a : ℕ) (lg : 2 ^ n ≤ g) (hg : g < 2 ^ suc n) (root : evaluate 
       ∙ evaluate-xor (suc n) a (r * 2) (b * 2 ^ n)
       ∙ ap₂ bitXor (evaluate-double n a r) (evaluate-bit (suc n) a b (2 ^ n) hb ∙ ap (mul b) (evaluate-top n a))
 
-  step-sorted : (p v b q w : ℕ) → bitXor (mul p (bitXor (mul a v) (mul b q))) (mul q w) ≡ bitXor (mul (mul a p) v) (mul q (bitXor (mul b p) w))
+  step-sorted : (p v b q w : ℕ) → bitXor (mul p (bitXor (mul a v) (mul b q))) (mul q w) ≡ bitXor (mul (mul a p) v)
+      (mul q (bitXor (mul b p) w))
   step-sorted p v b q w = simp ring
 
   pub evaluate-remainder : (r : ℕ) (d : List ℕ) → areBits d ≡ true → r < 2 ^ n
@@ -150,7 +151,8 @@ module _ (n g a : ℕ) (lg : 2 ^ n ≤ g) (hg : g < 2 ^ suc n) (root : evaluate 
       value-append a d (bits n p)
       ∙ ap₂ bitXor (ap (λ (m : ℕ). mul (power a m) (value a d)) (length-bits n p))
       (value-bits a n p ha ∙ evaluate-remainder 0 d hs (pow-pos n)
-      ∙ ap (λ (z : ℕ). bitXor z (mul (power a n) (value a d))) (ap (mul (power a (length d))) (evaluate-zero n a) ∙ zero-r (power a (length d))))
+      ∙ ap (λ (z : ℕ). bitXor z (mul (power a n) (value a d)))
+      (ap (mul (power a (length d))) (evaluate-zero n a) ∙ zero-r (power a (length d))))
       ∙ xor-self (mul (power a n) (value a d))
 
   -- a word of data and parity has the value of its remainder, which is the data's parity and the parity that came, added
@@ -193,7 +195,8 @@ pub roots : Roots
 unfolding encode parity
 roots w c i h =
     ap (value (exp (suc i))) (c .is)
-    ∙ systematic-root 42 generator (exp (suc i)) (generator-degree .0) (generator-degree .1) (generator-root i h) (c .message) (exp-small (suc i)) (c .bit)
+    ∙ systematic-root 42 generator (exp (suc i)) (generator-degree .0) (generator-degree .1) (generator-root i h) (c .message)
+    (exp-small (suc i)) (c .bit)
 
 pub parity-remains : (d : List ℕ) → areBits d ≡ true → OnlyRemainder 42 generator 0 d (parity d)
 unfolding parity

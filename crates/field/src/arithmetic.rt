@@ -1,7 +1,7 @@
 //! Arithmetic of GF(128) by tables of logarithms and powers. A number from 128 on stands for its remainder by 128.
 
 ghost use mathlib.Core.Path.{_≡_};
-ghost use Prim.Native.Nat.{ℕ, _<_, _≤_};
+ghost use Prim.Native.Nat.{_<_};
 ghost use Rattle.field.specs.Field.{byC, mul, exp, inverse as inverseOf};
 
 /// c^0 to c^253, so that a sum of two logarithms needs no reduction.

@@ -10,9 +10,9 @@ use lib.Dec.{lit<}
 use lib.ListN.{length, getD, drop, take, set, length-take, length-set}
 use lib.Seq.{drop-cons, getD-set-same, drop-set-lt}
 use Rattle.field.specs.Field.{mul, inverse}
-use Rattle.field.proofs.Elements.{comm, assoc, dist, mul-mod, mul-small, one-mul, zero-r, zero-l, cancel, ring, inverts}
+use Rattle.field.proofs.Elements.{comm, assoc, mul-mod, mul-small, one-mul, zero-r, zero-l, cancel, ring, inverts}
 use Rattle.solver.specs.Linear.{sideFrom}
-use Rattle.solver.specs.Elimination.{Clear, SolveFrom, Combined}
+use Rattle.solver.specs.Elimination.{Clear, SolveFrom, Combined, Eliminated}
 
 residue : (x : ℕ) → x % 128 < 128
 residue x = mod-lt x (lit< tt)
@@ -21,7 +21,8 @@ residue x = mod-lt x (lit< tt)
 side-small : (col : ℕ) (r ys : List ℕ) → sideFrom col r ys < 128
 unfolding sideFrom
 side-small col r [] = residue (getD r col 0)
-side-small col r (y ∷ ys) = xor-lt 7 (mul (getD r col 0) y) (sideFrom (suc col) r ys) (mul-small (getD r col 0) y) (side-small (suc col) r ys)
+side-small col r (y ∷ ys) = xor-lt 7 (mul (getD r col 0) y) (sideFrom (suc col) r ys) (mul-small (getD r col 0) y)
+    (side-small (suc col) r ys)
 
 side-head : (r : List ℕ) (col y : ℕ) (ys : List ℕ) → sideFrom col r (y ∷ ys) ≡ bitXor (mul (getD r col 0) y) (sideFrom (suc col) r ys)
 unfolding sideFrom
@@ -61,7 +62,8 @@ residue-combined a b x y =
         mul-mod a x ∙ sym (ap (λ (z : ℕ). mul (a % 128) z) (mod-eq-of-lt (residue x))) ∙ sym (mul-mod a (x % 128))
 
 combined-sorted : (a b x q y u w : ℕ)
-    → bitXor (mul (bitXor (mul a x) (mul b q)) y) (bitXor (mul a u) (mul b w)) ≡ bitXor (mul a (bitXor (mul x y) u)) (mul b (bitXor (mul q y) w))
+    → bitXor (mul (bitXor (mul a x) (mul b q)) y) (bitXor (mul a u) (mul b w)) ≡ bitXor (mul a (bitXor (mul x y) u))
+    (mul b (bitXor (mul q y) w))
 combined-sorted a b x q y u w = simp ring
 
 side-combined : (a b : ℕ) (r p n : List ℕ) → Combined a r b p n → (col : ℕ) (ys : List ℕ) → col + length ys < 7
@@ -74,7 +76,8 @@ side-combined a b r p n m col (y ∷ ys) h =
     ∙ combined-sorted a b (getD r col 0) (getD p col 0) y (sideFrom (suc col) r ys) (sideFrom (suc col) p ys)
 
 -- ---- one equation r and the pivot p, of which n is made so that the column goes
-module _ (p r n : List ℕ) (col : ℕ) (m : Combined (getD p col 0) r (getD r col 0) p n) (y : ℕ) (ys : List ℕ) (h : col + suc (length ys) < 7) where
+module _ (p r n : List ℕ) (col : ℕ) (m : Combined (getD p col 0) r (getD r col 0) p n) (y : ℕ) (ys : List ℕ)
+    (h : col + suc (length ys) < 7) where
   side-made : sideFrom col n (y ∷ ys) ≡ bitXor (mul (getD p col 0) (sideFrom col r (y ∷ ys))) (mul (getD r col 0) (sideFrom col p (y ∷ ys)))
   side-made = side-combined (getD p col 0) (getD r col 0) r p n m col (y ∷ ys) h
 
@@ -145,7 +148,8 @@ after r ys col e = ap (λ (m : ℕ). sideFrom m r ys) (add-one col) ∙ e
 module _ (rows : List (List ℕ)) (col v : ℕ) (h : col < v) (l : v ≤ 6) where
   module _ (z : Clear rows col) where
     pub free-solved : (xs : List ℕ) (y : ℕ) → length xs ≡ 6
-        → SolveFrom (col + 1) rows (take (v - (col + 1)) (drop (col + 1) xs)) → SolveFrom col rows (take (v - col) (drop col (set xs col y)))
+        → SolveFrom (col + 1) rows (take (v - (col + 1)) (drop (col + 1) xs))
+        → SolveFrom col rows (take (v - col) (drop col (set xs col y)))
     free-solved xs y e s i k =
         ap (sideFrom col (getD rows i [])) (values-more xs col v y h (omega arith))
         ∙ row-free (getD rows i []) col y (take (v - suc col) (drop (suc col) xs)) (z i k)
@@ -158,8 +162,7 @@ module _ (rows : List (List ℕ)) (col v : ℕ) (h : col < v) (l : v ≤ 6) wher
         f ys (omega arith) (λ i k. after (getD rows i []) ys col (sym (row-free (getD rows i []) col y ys (z i k)) ∙ s i k))
 
   module _ (p : ℕ) (hp : p < length rows) (new : List (List ℕ)) (same : length new ≡ length rows)
-      (m : (i : ℕ) → i < length rows
-      → Combined (getD (getD rows p []) col 0) (getD rows i []) (getD (getD rows i []) col 0) (getD rows p []) (getD new i []))
+      (m : Eliminated col (getD rows p []) rows new)
     where
       pub pivot-none : ((ys : List ℕ) → length ys ≡ v - (col + 1) → SolveFrom (col + 1) new ys → ⊥)
           → (ys : List ℕ) → length ys ≡ v - col → SolveFrom col rows ys → ⊥
@@ -172,8 +175,10 @@ module _ (rows : List (List ℕ)) (col v : ℕ) (h : col < v) (l : v ≤ 6) wher
           (row-down (getD rows p []) (getD rows i []) (getD new i []) col (m i j) y ys (omega arith) (s p hp) (s i j)))
 
       pub pivot-solved : (xs : List ℕ) (s y : ℕ) → length xs ≡ 6 → 0 < getD (getD rows p []) col 0 % 128
-          → s ≡ sideFrom (col + 1) (getD rows p []) (take (v - (col + 1)) (drop (col + 1) xs)) → y ≡ mul (inverse (getD (getD rows p []) col 0)) s
-          → SolveFrom (col + 1) new (take (v - (col + 1)) (drop (col + 1) xs)) → SolveFrom col rows (take (v - col) (drop col (set xs col y)))
+          → s ≡ sideFrom (col + 1) (getD rows p []) (take (v - (col + 1)) (drop (col + 1) xs))
+          → y ≡ mul (inverse (getD (getD rows p []) col 0)) s
+          → SolveFrom (col + 1) new (take (v - (col + 1)) (drop (col + 1) xs))
+          → SolveFrom col rows (take (v - col) (drop col (set xs col y)))
       pivot-solved xs s y e pos iss isy solved i k =
           let ys : List ℕ = take (v - suc col) (drop (suc col) xs) in
           ap (sideFrom col (getD rows i [])) (values-more xs col v y h (omega arith))

@@ -18,3 +18,8 @@ SolveFrom col rows ys = (i : ℕ) → i < length rows → sideFrom col (getD row
 -- a·row + b·other
 abbrev pub Combined : ℕ → List ℕ → ℕ → List ℕ → List ℕ → Type 0
 Combined a row b other new = (k : ℕ) → k < 7 → getD new k 0 ≡ bitXor (mul a (getD row k 0)) (mul b (getD other k 0))
+
+-- each equation is made of the old one and the pivot so that the column goes
+abbrev pub Eliminated : ℕ → List ℕ → List (List ℕ) → List (List ℕ) → Type 0
+Eliminated col pivot rows new =
+    (i : ℕ) → i < length rows → Combined (getD pivot col 0) (getD rows i []) (getD (getD rows i []) col 0) pivot (getD new i [])

@@ -5,14 +5,14 @@ use field::product;
 ghost use mathlib.Core.Path.{_≡_};
 ghost use mathlib.Core.Bool.{true, false};
 ghost use mathlib.Core.List.{List, []};
-ghost use Prim.Native.Nat.{ℕ, _+_, _-_, _%_, _<_, _≤_, min};
+ghost use Prim.Native.Nat.{ℕ, _-_, _%_, _<_, _≤_, min};
 ghost use lib.ListN.{length, getD, take, drop};
 ghost use Rattle.std.specs.declared.option.Option.the-variants.{Some, None};
 ghost use Rattle.solver.specs.Linear.{sideFrom, Solve};
-ghost use Rattle.solver.specs.Elimination.{SolveFrom, Combined};
+ghost use Rattle.solver.specs.Elimination.{SolveFrom, Combined, Eliminated};
 
-/// Values of the unknowns, at most six, that solve the equations; nothing where there are none. An unknown that the
-/// equations leave free is 0.
+/// Values of the unknowns, at most six, that solve the equations; nothing where there are none. Where the equations leave an
+/// unknown free, its value is any.
 pub fn solve(equations: &[[u8; 7]; 6], unknowns: usize) -> Option<[u8; 6]>
     ensures some { λ r. ⌜ ((xs : List ℕ) → r ≡ Some xs → Solve (now (equations .entry)) (take (min unknowns 6) xs)) ⌝ }
     ensures small { λ r. ⌜ ((xs : List ℕ) → r ≡ Some xs → (k : ℕ) → getD xs k 0 < 128) ⌝ }
@@ -73,7 +73,7 @@ fn pivot(rows: &[[u8; 7]], col: usize) -> usize
 /// Takes the pivot out of each equation.
 fn eliminate(rows: &mut [[u8; 7]], pivot: &[u8; 7], col: usize)
     requires { ⌜ col < 7 ⌝ }
-    ensures { λ _. ⌜ ((i : ℕ) → i < length (now (rows .entry)) → Combined (getD (now (pivot .entry)) col 0) (getD (now (rows .entry)) i []) (getD (getD (now (rows .entry)) i []) col 0) (now (pivot .entry)) (getD (now (rows .exit)) i [])) ⌝ }
+    ensures { λ _. ⌜ Eliminated col (now (pivot .entry)) (now (rows .entry)) (now (rows .exit)) ⌝ }
 {
     for i in 0..rows.len() {
         let coefficient = rows[i][col];

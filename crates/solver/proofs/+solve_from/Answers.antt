@@ -1,8 +1,8 @@
-use mathlib.Core.Path.{_≡_, refl, sym, ap, _∙_}
+use mathlib.Core.Path.{_≡_, refl}
 use mathlib.Core.Bool.{true, false}
 use native.Mathlib.Omega.{arith}
 use borrow.Author.Tests.{both-ways, eqb-true, eqb-false}
-use Prim.Native.Nat.{ℕ, _<_}
+use Prim.Native.Nat.{_<_}
 use lib.Dec.{lit<}
 use lib.ListN.{length, drop}
 use Rattle.solver.proofs.Rows.{free-solved, free-none, pivot-solved, pivot-none, end-solved, end-none, small-set}
@@ -52,7 +52,8 @@ returns-then-not-solve-from-2 t c =
       small = c .if-not-solve-from-2 .ensures tt .small;
       solved = λ e i k. absurd (both-ways false refl e);
       none = λ e. pivot-none (c .args .rows .now) (c .args .col) (c .args .v) h (c .pre .columns .1)
-          (c .pivot-p .result) hp (c .eliminate .last .rows) (omega arith) (c .eliminate .ensures) (c .if-not-solve-from-2 .ensures tt .none refl);
+          (c .pivot-p .result) hp (c .eliminate .last .rows) (omega arith) (c .eliminate .ensures)
+          (c .if-not-solve-from-2 .ensures tt .none refl);
     }
 
 pub returns : need.returns
@@ -60,7 +61,8 @@ returns t c =
     let h : c .args .col < c .args .v = omega arith in
     let hp : c .pivot-p .result < length (c .args .rows .now) = omega arith in
     record {
-      small = small-set (c .solve-from-2 .last .xs) (c .args .col) (c .product .result) (c .if-not-solve-from-2 .ensures tt .small) (c .product .ensures .small);
+      small = small-set (c .solve-from-2 .last .xs) (c .args .col) (c .product .result) (c .if-not-solve-from-2 .ensures tt .small)
+          (c .product .ensures .small);
       solved = λ e. pivot-solved (c .args .rows .now) (c .args .col) (c .args .v) h (c .pre .columns .1)
           (c .pivot-p .result) hp (c .eliminate .last .rows) (omega arith) (c .eliminate .ensures)
           (c .solve-from-2 .last .xs) (c .left-side .result) (c .product .result) (omega arith)

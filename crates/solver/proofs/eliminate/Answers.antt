@@ -1,7 +1,3 @@
-use mathlib.Core.Path.{_≡_, sym, subst}
-use mathlib.Core.List.{[]}
-use Prim.Native.Nat.{ℕ}
-use native.Mathlib.Omega.{arith}
 use borrow.Author.Needs.{needs}
 use Rattle.solver.proofs.eliminate.Needs as need
 

@@ -9,5 +9,6 @@ use Rattle.solver.proofs.eliminate.Given as given
 abbrev pub Inv-loop-i : given.InvT-loop-i
 Inv-loop-i l =
     ((k : ℕ) → k < l .i
-    → Combined (getD (l .pivot) (l .col) 0) (getD (l .entry .rows) k []) (getD (getD (l .entry .rows) k []) (l .col) 0) (l .pivot) (getD (l .rows) k []))
+    → Combined (getD (l .pivot) (l .col) 0) (getD (l .entry .rows) k []) (getD (getD (l .entry .rows) k []) (l .col) 0) (l .pivot)
+    (getD (l .rows) k []))
     × ((k : ℕ) → l .i ≤ k → getD (l .rows) k [] ≡ getD (l .entry .rows) k [])

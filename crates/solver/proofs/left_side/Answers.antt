@@ -13,6 +13,7 @@ loop-j-again c = (
   omega arith,
   omega arith,
   ap (bitXor (c .loop-j .sum)) (c .product-sum .ensures .is)
-      ∙ side-back (c .args .row .now) (c .args .xs .now) (c .loop-j .j) (c .args .v) (c .loop-j .sum) (omega arith) (omega arith) (omega arith)
+      ∙ side-back (c .args .row .now) (c .args .xs .now) (c .loop-j .j) (c .args .v) (c .loop-j .sum) (omega arith) (omega arith)
+      (omega arith)
       (c .loop-j .inv .2),
 )

@@ -1,9 +1,9 @@
-use mathlib.Core.Path.{_≡_, refl, sym, ap, _∙_}
-use Prim.Native.Nat.{ℕ, _-_}
+use mathlib.Core.Path.{refl, _∙_}
+use Prim.Native.Nat.{_-_}
 use native.Mathlib.Omega.{arith}
 use lib.ListN.{length-set, take, replicate}
 use Rattle.coding.proofs.Words.{bit-at, bits-set}
-use Rattle.field.specs.Locator.{flipped, isRoot}
+use Rattle.field.specs.Locator.{isRoot}
 use Rattle.bch.proofs.Systems.{power-first, power-below, flipped-none, flipped-more, place-more, flipped-all}
 use Rattle.bch.proofs.decoder.flipped.Needs as need
 
@@ -31,13 +31,15 @@ loop-i-again c =
       place-more i (c .loop-i .x) (c .times-c-x .result) (omega arith) (omega arith) (c .loop-i .inv .1) (c .times-c-x .ensures .is),
       bits-set out (i - 1) t (c .loop-i .inv .2) (c .flipped-if-root .ensures .bit),
       flipped-more (take (c .args .v) (c .args .locator .now)) (c .args .word .now) out i (c .loop-i .x) (c .locator-value .result) t
-          (omega arith) (omega arith) (omega arith) (c .loop-i .inv .0) (c .loop-i .inv .1) (c .locator-value .ensures) (c .flipped-if-root .ensures .is)
+          (omega arith) (omega arith) (omega arith) (c .loop-i .inv .0) (c .loop-i .inv .1) (c .locator-value .ensures)
+          (c .flipped-if-root .ensures .is)
           (c .loop-i .inv .3),
     )
 
 pub returns : need.returns
 returns c =
     record {
-      is = flipped-all (isRoot (take (c .args .v) (c .args .locator .now))) (c .args .word .now) (c .loop-i .out) (c .loop-i .i) (omega arith) (c .loop-i .inv .3);
+      is = flipped-all (isRoot (take (c .args .v) (c .args .locator .now))) (c .args .word .now) (c .loop-i .out) (c .loop-i .i)
+          (omega arith) (c .loop-i .inv .3);
       bits = c .loop-i .inv .2;
     }

@@ -13,6 +13,7 @@ loop-i-again c =
     let i = c .loop-i .i in
     let row = c .key-equation .result in (
       length-set rows i row ∙ c .loop-i .inv .0,
-      set-below [] (λ k r. Equation (c .args .s .now) (k + 1) (c .args .v) r) rows i row (omega arith) (c .loop-i .inv .1) (c .key-equation .ensures),
+      set-below [] (λ k r. Equation (c .args .s .now) (k + 1) (c .args .v) r) rows i row (omega arith) (c .loop-i .inv .1)
+          (c .key-equation .ensures),
       set-above [] (λ k r. (j : ℕ) → getD r j 0 ≡ 0) rows i row (c .loop-i .inv .2),
     )

@@ -1,6 +1,5 @@
 use mathlib.Core.Path.{_≡_}
 use mathlib.Core.List.{_∷_}
-use Prim.Native.Nat.{_<_}
 use lib.ListN.{take}
 use Rattle.field.specs.Field.{value}
 use Rattle.bch.proofs.decoder.locator_value.Given as given

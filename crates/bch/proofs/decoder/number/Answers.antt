@@ -1,7 +1,6 @@
-use mathlib.Core.Path.{_≡_, refl, sym, ap, _∙_}
+use mathlib.Core.Path.{_≡_, sym, ap, _∙_}
 use Prim.Native.Nat.{ℕ, _+_, _*_, _^_, _<_}
 use native.Mathlib.Omega.{arith}
-use borrow.Author.Needs.{needs}
 use lib.ListN.{drop, getD}
 use Rattle.coding.specs.Bits.{numberAfter}
 use Rattle.coding.proofs.Words.{bit-at}
@@ -17,7 +16,8 @@ mul-sum c =
 pub add-sum : need.add-sum
 add-sum c =
     let h : c .loop-bit .sum < 2 ^ 62 = sum-fits (c .loop-bit .sum) (c .loop-bit .bit-index) (c .loop-bit .inv .1) (omega arith) in
-    let b : getD (c .args .word .now) (c .loop-bit .bit-index) 0 < 2 = bit-at (c .args .word .now) (c .pre .bits) (c .loop-bit .bit-index) in
+    let b : getD (c .args .word .now) (c .loop-bit .bit-index) 0 < 2 = bit-at (c .args .word .now) (c .pre .bits)
+    (c .loop-bit .bit-index) in
     record { fits = omega (arith, c .from .ensures) }
 
 pub loop-bit-again : need.loop-bit-again

@@ -1,11 +1,9 @@
-use mathlib.Core.Path.{_≡_, sym, ap, ap₂, _∙_}
-use mathlib.Core.List.{List}
-use Prim.Native.Nat.{ℕ}
+use mathlib.Core.Path.{_≡_, ap, ap₂, _∙_}
 use native.Mathlib.Omega.{arith}
 use lib.Bits.{bitXor}
-use lib.ListN.{length, take, drop, length-take, length-drop}
+use lib.ListN.{take, drop, length-take, length-drop}
 use lib.Seq.{take-all}
-use Rattle.coding.specs.Bits.{areBits, number}
+use Rattle.coding.specs.Bits.{number}
 use Rattle.coding.proofs.Words.{bits-take, bits-drop}
 use Rattle.field.specs.Code.{parity}
 use Rattle.bch.proofs.decoder.remainder.Needs as need

@@ -1,9 +1,6 @@
-use mathlib.Core.Path.{_≡_, refl, sym, ap, subst, _∙_}
-use mathlib.Core.List.{List}
-use Prim.Native.Nat.{ℕ, _<_}
+use mathlib.Core.Path.{_≡_}
 use native.Mathlib.Omega.{arith}
 use Rattle.coding.specs.Distance.{distance}
-use Rattle.bch.specs.Nearest.{Near}
 use Rattle.bch.proofs.Answered.{not-here, found-near, found-none}
 use Rattle.bch.proofs.decoder.search.Needs as need
 

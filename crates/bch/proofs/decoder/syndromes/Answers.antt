@@ -1,10 +1,10 @@
 use mathlib.Core.Path.{_≡_, refl, sym, ap, _∙_}
 use Prim.Native.Nat.{ℕ, _+_, _-_, _<_}
 use native.Mathlib.Omega.{arith}
-use lib.ListN.{getD, length-set}
+use lib.ListN.{length-set}
 use Rattle.coding.specs.Bits.{bits}
 use Rattle.field.specs.Field.{exp, value}
-use Rattle.bch.proofs.Systems.{set-below, power-more, power-first, power-below}
+use Rattle.bch.proofs.Systems.{set-below, power-more, power-first}
 use Rattle.bch.proofs.decoder.syndromes.Needs as need
 
 pub loop-k-holds : need.loop-k-holds
@@ -15,7 +15,8 @@ loop-k-again c =
     let k = c .loop-k .k in
     let s = c .loop-k .s in
     let y = c .value-at .result in
-    let e : c .times-c-x .result ≡ exp k = power-more k (c .loop-k .x) (c .times-c-x .result) (omega arith) (c .loop-k .inv .0) (c .times-c-x .ensures .is) in
+    let e : c .times-c-x .result ≡ exp k = power-more k (c .loop-k .x) (c .times-c-x .result) (omega arith) (c .loop-k .inv .0)
+    (c .times-c-x .ensures .is) in
     let d : k + 1 - 1 ≡ k = omega arith in (
       e ∙ ap exp (sym d),
       length-set s k y ∙ c .loop-k .inv .1,

@@ -1,7 +1,6 @@
-use mathlib.Core.Path.{_≡_, refl, sym, ap, ap₂, _∙_}
-use Prim.Native.Nat.{ℕ, suc, _-_, _/_, _%_, _^_}
+use mathlib.Core.Path.{sym}
 use native.Mathlib.Omega.{arith}
-use Rattle.field.proofs.Roots.{evaluate, evaluate-none, value-bits}
+use Rattle.field.proofs.Roots.{evaluate-none}
 use Rattle.bch.proofs.Codewords.{horner, horner-end}
 use Rattle.bch.proofs.decoder.value_at.Needs as need
 
@@ -10,7 +9,8 @@ loop-i-holds c = sym (evaluate-none (c .args .x) _)
 
 pub loop-i-again : need.loop-i-again
 loop-i-again c =
-    horner (c .args .x) (c .args .rest) (c .loop-i .i) (c .loop-i .sum) (c .product .result) (omega arith) (omega arith) (c .loop-i .inv) (c .product .ensures .is)
+    horner (c .args .x) (c .args .rest) (c .loop-i .i) (c .loop-i .sum) (c .product .result) (omega arith) (omega arith)
+    (c .loop-i .inv) (c .product .ensures .is)
 
 pub returns : need.returns
 returns c = horner-end (c .args .x) (c .args .rest) (c .loop-i .i) (c .loop-i .sum) (c .pre) (omega arith) (c .loop-i .inv)

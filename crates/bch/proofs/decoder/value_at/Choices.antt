@@ -1,5 +1,5 @@
 use mathlib.Core.Path.{_≡_}
-use Prim.Native.Nat.{_-_, _/_, _^_, _<_}
+use Prim.Native.Nat.{_-_, _/_, _^_}
 use Rattle.field.proofs.Roots.{evaluate}
 use Rattle.bch.proofs.decoder.value_at.Given as given
 

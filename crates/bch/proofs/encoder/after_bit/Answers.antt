@@ -1,11 +1,9 @@
-use mathlib.Core.Path.{_≡_, refl, sym, ap, ap₂, subst, _∙_}
-use Prim.Native.Nat.{ℕ, _*_, _^_, _<_}
+use mathlib.Core.Path.{_≡_, sym, ap₂, _∙_}
+use Prim.Native.Nat.{_*_, _^_}
 use native.Mathlib.Omega.{arith}
 use lib.Bits.{bitXor}
 use Rattle.coding.proofs.Division.{reduced-low, reduced-high}
-use Rattle.coding.proofs.Quotient.{brought, reduced-small}
 use Rattle.field.specs.Code.{generator}
-use Rattle.field.proofs.Roots.{generator-degree}
 use Rattle.bch.proofs.Codewords.{generator-is, register-small}
 use Rattle.bch.proofs.encoder.after_bit.Needs as need
 

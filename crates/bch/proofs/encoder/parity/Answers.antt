@@ -24,6 +24,7 @@ loop-bit-again c = (
 pub returns : need.returns
 returns c =
     record {
-      is = sym (remainder-all 42 generator (c .loop-bit .register) (c .args .«data» .now) (c .loop-bit .bit-index) (omega arith)) ∙ c .loop-bit .inv .0;
+      is = sym (remainder-all 42 generator (c .loop-bit .register) (c .args .«data» .now) (c .loop-bit .bit-index) (omega arith))
+          ∙ c .loop-bit .inv .0;
       small = c .loop-bit .inv .1;
     }

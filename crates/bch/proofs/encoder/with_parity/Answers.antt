@@ -1,8 +1,7 @@
-use mathlib.Core.Path.{_≡_, refl, sym, ap, _∙_}
+use mathlib.Core.Path.{refl, _∙_}
 use Prim.Native.Nat.{_-_, _%_}
 use native.Mathlib.Omega.{arith}
-use borrow.Author.Needs.{needs}
-use lib.ListN.{length, length-set}
+use lib.ListN.{length-set}
 use lib.Seq.{take-set-le}
 use Rattle.bch.proofs.Codewords.{parity-start, parity-more, parity-all}
 use Rattle.bch.proofs.encoder.with_parity.Needs as need
@@ -25,4 +24,5 @@ loop-i-again c =
 
 pub returns : need.returns
 returns c =
-    parity-all (c .args .«data» .now) (c .loop-i .word) _ (c .loop-i .i) (c .loop-i .rest) (omega arith) (c .loop-i .inv .2) (c .loop-i .inv .3)
+    parity-all (c .args .«data» .now) (c .loop-i .word) _ (c .loop-i .i) (c .loop-i .rest) (omega arith) (c .loop-i .inv .2)
+    (c .loop-i .inv .3)

@@ -1,4 +1,3 @@
-use mathlib.Core.Path.{_≡_}
 use native.Mathlib.Omega.{arith}
 use Rattle.coding.proofs.Distances.{distance-alike, distance-unlike, distance-rest}
 use Rattle.coding.proofs.bits.distance.Needs as need
@@ -10,8 +9,26 @@ loop-i-again c =
     let b = c .args .b .now in
     let i = c .loop-i .i in
     elim (c .if-a-i .came) [
-      | then-a-i w ↦ (omega (arith, w .places-is, c .loop-i .inv .0, distance-unlike a b i (omega arith) (omega arith) (λ e. omega arith)), omega (arith, w .places-is))
-      | else-a-i w ↦ (omega (arith, w .places-is, c .loop-i .inv .0, distance-alike a b i (omega arith) (omega arith) (omega arith)), omega (arith, w .places-is))
+      | then-a-i w ↦ (
+        omega (
+          arith,
+          w .places-is,
+          c .loop-i .inv .0,
+          distance-unlike a b i (omega arith) (omega arith)
+              (λ e. omega arith),
+        ),
+        omega (arith, w .places-is),
+      )
+      | else-a-i w ↦ (
+        omega (
+          arith,
+          w .places-is,
+          c .loop-i .inv .0,
+          distance-alike a b i (omega arith) (omega arith)
+              (omega arith),
+        ),
+        omega (arith, w .places-is),
+      )
     ]
 
 pub returns : need.returns

@@ -10,7 +10,8 @@ use Rattle.coding.proofs.crc.after_octet.Needs as need
 
 pub loop-i-again : need.loop-i-again
 loop-i-again c =
-    remainder-bit 8 divisor (c .loop-i .register) (c .args .octet) (c .loop-i .i) (c .after-bit-register .result) (omega arith) (c .after-bit-register .ensures)
+    remainder-bit 8 divisor (c .loop-i .register) (c .args .octet) (c .loop-i .i) (c .after-bit-register .result) (omega arith)
+    (c .after-bit-register .ensures)
     ∙ c .loop-i .inv
 
 pub returns : need.returns

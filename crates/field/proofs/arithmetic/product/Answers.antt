@@ -1,7 +1,4 @@
-use mathlib.Core.Path.{_≡_}
-use native.Mathlib.Omega.{arith}
 use lib.Dec.{lit<}
-use Rattle.field.specs.Field.{exp}
 use Rattle.field.proofs.Products.{product-is, product-zero-l, product-zero-r, exp-below}
 use Rattle.field.proofs.arithmetic.product.Needs as need
 
