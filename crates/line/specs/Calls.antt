@@ -1,0 +1,53 @@
+-- What the calls of a line answer and leave behind, in every case.
+use mathlib.Core.List.{List}
+use mathlib.Core.Bool.{Bool, cond, _&&_}
+use Prim.Native.Nat.{ℕ}
+use lib.Dec.{eqb, ltb}
+use lib.ListN.{length}
+use Rattle.std.specs.declared.option.Option.{Option}
+use Rattle.std.specs.declared.option.Option.the-variants.{Some, None}
+use Rattle.std.specs.declared.result.Result.{Result}
+use Rattle.std.specs.declared.result.Result.the-variants.{Ok, Err}
+use Rattle.coding.specs.Bits.{areBits}
+use Rattle.line.specs.declared.refusal.LineRefusal.{LineRefusal}
+use Rattle.line.specs.declared.refusal.LineRefusal.the-variants.{WrongLength, NotABit}
+use Rattle.line.specs.Line.{Model}
+
+-- a refusal's number; it speaks of no half and no place
+abbrev pub numberOf : LineRefusal → ℕ
+numberOf WrongLength = 12
+numberOf NotABit = 13
+
+abbrev pub halfOf : LineRefusal → ℕ
+halfOf WrongLength = 0
+halfOf NotABit = 0
+
+abbrev pub placeOf : LineRefusal → ℕ
+placeOf WrongLength = 0
+placeOf NotABit = 0
+
+-- the line length of n, if n is taken
+abbrev pub lengthOf : Model → ℕ → Option ℕ
+lengthOf m n = cond (m .takes n) (Some (m .lineLength n)) None
+
+-- n is taken, and l is its line length
+abbrev pub fits : Model → ℕ → ℕ → Bool
+fits m n l = m .takes n && eqb (m .lineLength n) l
+
+-- lengths are looked at before octets
+abbrev pub verdict : Bool → Bool → Result (Unit {0}) LineRefusal
+verdict lengths octets = cond lengths (cond octets (Ok tt) (Err NotABit)) (Err WrongLength)
+
+-- encode of the word w after a last bit, with an output that holds o
+abbrev pub encodeAnswer : Model → List ℕ → ℕ → List ℕ → Result (Unit {0}) LineRefusal
+encodeAnswer m w last o = verdict (fits m (length w) (length o)) (areBits w && ltb last 2)
+
+abbrev pub encodeOutput : Model → List ℕ → ℕ → List ℕ → List ℕ
+encodeOutput m w last o = cond (fits m (length w) (length o) && (areBits w && ltb last 2)) (m .encode w last) o
+
+-- decode of the line bits x, with an output that holds o
+abbrev pub decodeAnswer : Model → List ℕ → List ℕ → Result (Unit {0}) LineRefusal
+decodeAnswer m x o = verdict (fits m (length o) (length x)) (areBits x)
+
+abbrev pub decodeOutput : Model → List ℕ → List ℕ → List ℕ
+decodeOutput m x o = cond (fits m (length o) (length x) && areBits x) (m .decode x) o
