@@ -1,19 +1,20 @@
 -- A cascade of two lines that keep the rules keeps the rules.
 use mathlib.Core.Path.{_≡_, refl, sym, ap, _∙_}
-use mathlib.Core.List.{List}
+use mathlib.Core.List.{List, _++_}
 use mathlib.Core.Bool.{true}
-use Prim.Native.Nat.{ℕ, _<_, _≤_}
+use Prim.Native.Nat.{ℕ, _-_, _<_, _≤_}
 use native.Mathlib.Nat.{le-trans}
-use native.Mathlib.Omega.{arith}
 use lib.Dec.{lit<}
-use lib.ListN.{length}
-use Rattle.std.proofs.shelf.Tests.{and-parts, eq-eqb}
-use Rattle.coding.specs.Bits.{areBits}
-use Rattle.coding.specs.Distance.{distance}
+use lib.ListN.{length, take}
+use Rattle.std.specs.declared.option.Option.the-variants.{Some}
+use Rattle.std.specs.declared.result.Result.{Result}
+use Rattle.std.specs.declared.result.Result.the-variants.{Ok}
+use Rattle.std.proofs.shelf.Tests.{and-parts, and-from}
 use Rattle.line.specs.Line.{Model, Word, LineRules}
-use Rattle.line.specs.Calls.{encodeAnswer, encodeOutput, decodeAnswer, decodeOutput}
+use Rattle.line.specs.declared.refusal.LineRefusal.{LineRefusal}
+use Rattle.line.specs.Calls.{lengthOf, encodeAnswer, encodeOutput, decodeAnswer, decodeOutput}
 use Rattle.line.specs.Stages.{cascade}
-use Rattle.line.proofs.Answers.{decode-ok}
+use Rattle.line.proofs.Answers.{length-some, encode-done, decode-done, decode-ok, decode-written, le-front, take-front}
 
 module _ (u d : Model) (ru : LineRules u) (rd : LineRules d) where
   upper-takes : (n : ℕ) → cascade u d .takes n ≡ true → u .takes n ≡ true
@@ -43,33 +44,80 @@ module _ (u d : Model) (ru : LineRules u) (rd : LineRules d) where
         (ru .rising _ _ (rd .near (u .lineLength n) (u .encode w 0) last x (lower-takes n t) (middle n w t word) hb line));
   }
 
-  -- encode of the lower line after the upper's is that of the cascade, in the refusing cases too
-  module _ (w : List ℕ) (t : cascade u d .takes (length w) ≡ true) (hw : areBits w ≡ true) where
-    pub encode-answer : (last : ℕ) (o : List ℕ) → encodeAnswer d (u .encode w 0) last o ≡ encodeAnswer (cascade u d) w last o
-    encode-answer last o =
-        let m = middle (length w) w t (refl, hw) in
-        rw (m .0, m .1, hw, upper-takes (length w) t)
+  -- The calls. Both ask first for the length in the middle and for the line length.
+  taken : (n l k : ℕ) → Some l ≡ lengthOf u n → Some k ≡ lengthOf d l → cascade u d .takes n ≡ true
+  taken n l k first second =
+      let s = length-some u n l first in
+      let t = length-some d l k second in
+      and-from (u .takes n) (d .takes (u .lineLength n)) (s .0) (rw (s .1) (t .0))
 
-    pub encode-output : (last : ℕ) (o : List ℕ) → encodeOutput d (u .encode w 0) last o ≡ encodeOutput (cascade u d) w last o
-    encode-output last o =
-        let m = middle (length w) w t (refl, hw) in
-        rw (m .0, m .1, hw, upper-takes (length w) t)
+  pub in-room : (n l : ℕ) → Some l ≡ lengthOf u n → l ≤ 4096
+  in-room n l first = let s = length-some u n l first in rw (s .1) at (ru .short n (s .0) .1)
 
-  -- decode of the upper line after the lower's is that of the cascade
-  module _ (x o : List ℕ) (t : cascade u d .takes (length o) ≡ true) (line : Word (cascade u d .lineLength (length o)) x) where
-    pub decode-answer : decodeAnswer u (d .decode x) o ≡ decodeAnswer (cascade u d) x o
-    decode-answer =
-        let m = middle-back (length o) x t line in
-        sym (decode-ok u (d .decode x) o (upper-takes (length o) t) (sym (m .0)) (m .1)) ∙ decode-ok (cascade u d) x o t (sym (line .0)) (line .1)
+  -- Encode: the upper line wrote y, the front of the room, and answered r.
+  module _ (w : List ℕ) (l k : ℕ) (first : Some l ≡ lengthOf u (length w)) (second : Some k ≡ lengthOf d l)
+    (room y : List ℕ) (r : Result (Unit {0}) LineRefusal)
+    (answer : r ≡ encodeAnswer u w 0 room) (ok : r ≡ Ok tt) (output : y ≡ encodeOutput u w 0 room) where
+    word : Word (length w) w
+    word = (refl, encode-done u w 0 room y r answer ok output .0)
 
-    pub decode-output : decodeOutput u (d .decode x) o ≡ decodeOutput (cascade u d) x o
-    decode-output =
-        let m = middle-back (length o) x t line in
-        rw (
-          m .1,
-          upper-takes (length o) t,
-          eq-eqb (u .lineLength (length o)) (length (d .decode x)) (sym (m .0)),
-          lower-takes (length o) t,
-          eq-eqb (d .lineLength (u .lineLength (length o))) (length x) (sym (line .0)),
-          line .1,
-        )
+    encoded : y ≡ u .encode w 0
+    encoded = encode-done u w 0 room y r answer ok output .1
+
+    taken-word : cascade u d .takes (length w) ≡ true
+    taken-word = taken (length w) l k first second
+
+    encoded-length : length y ≡ l
+    encoded-length = ap length encoded ∙ middle (length w) w taken-word word .0 ∙ length-some u (length w) l first .1
+
+    pub encoded-part : (rest : List ℕ) → l ≤ length (y ++ rest)
+    encoded-part rest = le-front l y rest encoded-length
+
+    front : (rest : List ℕ) → take (l - 0) (y ++ rest) ≡ u .encode w 0
+    front rest = take-front l y rest encoded-length ∙ encoded
+
+    -- what the lower line then answers and writes is the cascade's
+    pub encode-all : (rest : List ℕ) (last : ℕ) (o out : List ℕ) (r′ : Result (Unit {0}) LineRefusal) →
+      r′ ≡ encodeAnswer d (take (l - 0) (y ++ rest)) last o → out ≡ encodeOutput d (take (l - 0) (y ++ rest)) last o →
+      (r′ ≡ encodeAnswer (cascade u d) w last o) × (out ≡ encodeOutput (cascade u d) w last o)
+    encode-all rest last o out r′ a is =
+        let m = middle (length w) w taken-word word in
+        (a ∙ rw (front rest, m .0, m .1, word .1, upper-takes (length w) taken-word),
+        is ∙ rw (front rest, m .0, m .1, word .1, upper-takes (length w) taken-word))
+
+  -- Decode: the lower line wrote y, the front of the room, and answered r.
+  module _ (x o : List ℕ) (l k : ℕ) (first : Some l ≡ lengthOf u (length o)) (second : Some k ≡ lengthOf d l) (whole : k ≡ length x)
+    (room y : List ℕ) (r : Result (Unit {0}) LineRefusal)
+    (answer : r ≡ decodeAnswer d x room) (ok : r ≡ Ok tt) (output : y ≡ decodeOutput d x room) where
+    decoded : y ≡ d .decode x
+    decoded = decode-done d x room y r answer ok output .1
+
+    taken-line : cascade u d .takes (length o) ≡ true
+    taken-line = taken (length o) l k first second
+
+    line : Word (cascade u d .lineLength (length o)) x
+    line =
+        (sym whole ∙ sym (length-some d l k second .1) ∙ ap (d .lineLength) (sym (length-some u (length o) l first .1)),
+        decode-done d x room y r answer ok output .0)
+
+    decoded-length : length y ≡ l
+    decoded-length = ap length decoded ∙ middle-back (length o) x taken-line line .0 ∙ length-some u (length o) l first .1
+
+    pub decoded-part : (rest : List ℕ) → l ≤ length (y ++ rest)
+    decoded-part rest = le-front l y rest decoded-length
+
+    front-back : (rest : List ℕ) → take (l - 0) (y ++ rest) ≡ d .decode x
+    front-back rest = take-front l y rest decoded-length ∙ decoded
+
+    -- what the upper line then answers and writes is the cascade's
+    pub decode-all : (rest out : List ℕ) (r′ : Result (Unit {0}) LineRefusal) →
+      r′ ≡ decodeAnswer u (take (l - 0) (y ++ rest)) o → out ≡ decodeOutput u (take (l - 0) (y ++ rest)) o →
+      (r′ ≡ decodeAnswer (cascade u d) x o) × (out ≡ decodeOutput (cascade u d) x o)
+    decode-all rest out r′ a is =
+        let m = middle-back (length o) x taken-line line in
+        let up = upper-takes (length o) taken-line in
+        (a ∙ rw (front-back rest)
+          (sym (decode-ok u (d .decode x) o up (sym (m .0)) (m .1)) ∙ decode-ok (cascade u d) x o taken-line (sym (line .0)) (line .1)),
+        is ∙ rw (front-back rest)
+          (sym (decode-written u (d .decode x) o up (sym (m .0)) (m .1) _ refl)
+          ∙ decode-written (cascade u d) x o taken-line (sym (line .0)) (line .1) _ refl))

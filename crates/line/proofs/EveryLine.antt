@@ -73,7 +73,7 @@ some-line-bit m r n t h = ⊎-elim (λ e. absurd (apart e)) (λ p. p) (some (m .
     apart e =
         let none : (b : ℕ) → b < 2 → length (line b) ≡ 0 = λ b hb. r .encodes n (replicate n b) 0 t (word b hb) (lit< tt) .0 ∙ e in
         let one : line 0 ≡ line 1 = nothing (line 0) (line 1) (none 0 (lit< tt)) (none 1 (lit< tt)) in
-        let both : replicate n 0 ≡ replicate n 1 = sym (back 0 (lit< tt)) ∙ ap (m .decode) one ∙ back 1 (lit< tt) in
+        let both : _≡_ {A = List ℕ} (replicate n 0) (replicate n 1) = sym (back 0 (lit< tt)) ∙ ap (m .decode) one ∙ back 1 (lit< tt) in
         let z : _≡_ {A = ℕ} 0 1 = sym (first-bit n 0 h) ∙ ap (λ (xs : List ℕ). getD xs 0 0) both ∙ first-bit n 1 h in
         omega arith
 
