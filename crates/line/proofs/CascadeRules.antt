@@ -56,8 +56,8 @@ module _ (u d : Model) (ru : LineRules u) (rd : LineRules d) where
 
   -- Encode: the upper line wrote y, the front of the room, and answered r.
   module _ (w : List ℕ) (l k : ℕ) (first : Some l ≡ lengthOf u (length w)) (second : Some k ≡ lengthOf d l)
-    (room y : List ℕ) (r : Result (Unit {0}) LineRefusal)
-    (answer : r ≡ encodeAnswer u w 0 room) (ok : r ≡ Ok tt) (output : y ≡ encodeOutput u w 0 room) where
+      (room y : List ℕ) (r : Result (Unit {0}) LineRefusal)
+      (answer : r ≡ encodeAnswer u w 0 room) (ok : r ≡ Ok tt) (output : y ≡ encodeOutput u w 0 room) where
     word : Word (length w) w
     word = (refl, encode-done u w 0 room y r answer ok output .0)
 
@@ -78,17 +78,18 @@ module _ (u d : Model) (ru : LineRules u) (rd : LineRules d) where
 
     -- what the lower line then answers and writes is the cascade's
     pub encode-all : (rest : List ℕ) (last : ℕ) (o out : List ℕ) (r′ : Result (Unit {0}) LineRefusal) →
-      r′ ≡ encodeAnswer d (take (l - 0) (y ++ rest)) last o → out ≡ encodeOutput d (take (l - 0) (y ++ rest)) last o →
-      (r′ ≡ encodeAnswer (cascade u d) w last o) × (out ≡ encodeOutput (cascade u d) w last o)
+        r′ ≡ encodeAnswer d (take (l - 0) (y ++ rest)) last o → out ≡ encodeOutput d (take (l - 0) (y ++ rest)) last o →
+        (r′ ≡ encodeAnswer (cascade u d) w last o) × (out ≡ encodeOutput (cascade u d) w last o)
     encode-all rest last o out r′ a is =
-        let m = middle (length w) w taken-word word in
-        (a ∙ rw (front rest, m .0, m .1, word .1, upper-takes (length w) taken-word),
-        is ∙ rw (front rest, m .0, m .1, word .1, upper-takes (length w) taken-word))
+        let m = middle (length w) w taken-word word in (
+          a ∙ rw (front rest, m .0, m .1, word .1, upper-takes (length w) taken-word),
+          is ∙ rw (front rest, m .0, m .1, word .1, upper-takes (length w) taken-word),
+        )
 
   -- Decode: the lower line wrote y, the front of the room, and answered r.
   module _ (x o : List ℕ) (l k : ℕ) (first : Some l ≡ lengthOf u (length o)) (second : Some k ≡ lengthOf d l) (whole : k ≡ length x)
-    (room y : List ℕ) (r : Result (Unit {0}) LineRefusal)
-    (answer : r ≡ decodeAnswer d x room) (ok : r ≡ Ok tt) (output : y ≡ decodeOutput d x room) where
+      (room y : List ℕ) (r : Result (Unit {0}) LineRefusal)
+      (answer : r ≡ decodeAnswer d x room) (ok : r ≡ Ok tt) (output : y ≡ decodeOutput d x room) where
     decoded : y ≡ d .decode x
     decoded = decode-done d x room y r answer ok output .1
 
@@ -96,9 +97,10 @@ module _ (u d : Model) (ru : LineRules u) (rd : LineRules d) where
     taken-line = taken (length o) l k first second
 
     line : Word (cascade u d .lineLength (length o)) x
-    line =
-        (sym whole ∙ sym (length-some d l k second .1) ∙ ap (d .lineLength) (sym (length-some u (length o) l first .1)),
-        decode-done d x room y r answer ok output .0)
+    line = (
+      sym whole ∙ sym (length-some d l k second .1) ∙ ap (d .lineLength) (sym (length-some u (length o) l first .1)),
+      decode-done d x room y r answer ok output .0,
+    )
 
     decoded-length : length y ≡ l
     decoded-length = ap length decoded ∙ middle-back (length o) x taken-line line .0 ∙ length-some u (length o) l first .1
@@ -111,13 +113,14 @@ module _ (u d : Model) (ru : LineRules u) (rd : LineRules d) where
 
     -- what the upper line then answers and writes is the cascade's
     pub decode-all : (rest out : List ℕ) (r′ : Result (Unit {0}) LineRefusal) →
-      r′ ≡ decodeAnswer u (take (l - 0) (y ++ rest)) o → out ≡ decodeOutput u (take (l - 0) (y ++ rest)) o →
-      (r′ ≡ decodeAnswer (cascade u d) x o) × (out ≡ decodeOutput (cascade u d) x o)
+        r′ ≡ decodeAnswer u (take (l - 0) (y ++ rest)) o → out ≡ decodeOutput u (take (l - 0) (y ++ rest)) o →
+        (r′ ≡ decodeAnswer (cascade u d) x o) × (out ≡ decodeOutput (cascade u d) x o)
     decode-all rest out r′ a is =
         let m = middle-back (length o) x taken-line line in
-        let up = upper-takes (length o) taken-line in
-        (a ∙ rw (front-back rest)
-          (sym (decode-ok u (d .decode x) o up (sym (m .0)) (m .1)) ∙ decode-ok (cascade u d) x o taken-line (sym (line .0)) (line .1)),
-        is ∙ rw (front-back rest)
-          (sym (decode-written u (d .decode x) o up (sym (m .0)) (m .1) _ refl)
-          ∙ decode-written (cascade u d) x o taken-line (sym (line .0)) (line .1) _ refl))
+        let up = upper-takes (length o) taken-line in (
+          a ∙ rw (front-back rest)
+              (sym (decode-ok u (d .decode x) o up (sym (m .0)) (m .1)) ∙ decode-ok (cascade u d) x o taken-line (sym (line .0)) (line .1)),
+          is ∙ rw (front-back rest)
+              (sym (decode-written u (d .decode x) o up (sym (m .0)) (m .1) _ refl)
+              ∙ decode-written (cascade u d) x o taken-line (sym (line .0)) (line .1) _ refl),
+        )

@@ -1,6 +1,7 @@
 //! One line over another.
 
 ghost use Rattle.line.specs.Stages.{cascade};
+use crate::LONGEST;
 use crate::Line;
 use crate::LineRefusal;
 
@@ -31,7 +32,7 @@ pub impl<U: Line, D: Line> Line for Cascade<U, D> as CascadeLine {
         if whole != out.len() {
             return Err(LineRefusal::WrongLength);
         }
-        let mut room = [0u8; 4096];
+        let mut room = [0u8; LONGEST];
         self.upper.encode(word, 0, &mut room[0..middle])?;
         self.lower.encode(&room[0..middle], last, out)
     }
@@ -46,7 +47,7 @@ pub impl<U: Line, D: Line> Line for Cascade<U, D> as CascadeLine {
         if whole != bits.len() {
             return Err(LineRefusal::WrongLength);
         }
-        let mut room = [0u8; 4096];
+        let mut room = [0u8; LONGEST];
         self.lower.decode(bits, &mut room[0..middle])?;
         self.upper.decode(&room[0..middle], out)
     }

@@ -3,6 +3,11 @@
 ghost use mathlib.Core.Path.{_≡_};
 ghost use Rattle.line.specs.Calls.{numberOf, halfOf, placeOf};
 
+/// What a refusal about no half, or about no place, gives.
+const NO_HALF: u8 = 0;
+
+const NO_PLACE: u8 = 0;
+
 /// Why a line did not encode or decode.
 #[derive(Clone, Copy, PartialEq, Eq, Debug)]
 pub enum LineRefusal {
@@ -27,13 +32,13 @@ impl LineRefusal {
     pub fn half(self) -> u8
         ensures { λ r. ⌜ r ≡ halfOf self ⌝ }
     {
-        0
+        NO_HALF
     }
 
     /// The place that the refusal is about: none, which is 0.
     pub fn place(self) -> u8
         ensures { λ r. ⌜ r ≡ placeOf self ⌝ }
     {
-        0
+        NO_PLACE
     }
 }

@@ -25,14 +25,27 @@ mod tests {
     use std::test::*;
 
     // What encode answers to `n` octets with an output of `room` places.
-    fn encode<L: Line>(heap: Global, line: &L, octet: u8, n: usize, last: u8, room: usize) -> Result<Result<(), LineRefusal>, AllocError> {
+    fn encode<L: Line>(
+        heap: Global,
+        line: &L,
+        octet: u8,
+        n: usize,
+        last: u8,
+        room: usize,
+    ) -> Result<Result<(), LineRefusal>, AllocError> {
         let word = vec![in heap; octet; n]?;
         let mut out = vec![in heap; 0u8; room]?;
         Ok(line.encode(&word, last, &mut out))
     }
 
     // What decode answers to `l` octets with an output of `room` places.
-    fn decode<L: Line>(heap: Global, line: &L, octet: u8, l: usize, room: usize) -> Result<Result<(), LineRefusal>, AllocError> {
+    fn decode<L: Line>(
+        heap: Global,
+        line: &L,
+        octet: u8,
+        l: usize,
+        room: usize,
+    ) -> Result<Result<(), LineRefusal>, AllocError> {
         let bits = vec![in heap; octet; l]?;
         let mut out = vec![in heap; 0u8; room]?;
         Ok(line.decode(&bits, &mut out))
@@ -53,13 +66,28 @@ mod tests {
         check(n <= 4096 && l <= 4096)?;
         check_eq(line.line_length(n), Some(l))?;
         check(comes_back(heap, line, n, l)?)?;
-        check_eq(encode(heap, line, 1, n, 1, l + 1)?, Err(LineRefusal::WrongLength))?;
-        check_eq(decode(heap, line, 1, l, n + 1)?, Err(LineRefusal::WrongLength))?;
+        check_eq(
+            encode(heap, line, 1, n, 1, l + 1)?,
+            Err(LineRefusal::WrongLength),
+        )?;
+        check_eq(
+            decode(heap, line, 1, l, n + 1)?,
+            Err(LineRefusal::WrongLength),
+        )?;
         check_eq(encode(heap, line, 1, n, 2, l)?, Err(LineRefusal::NotABit))?;
-        check_eq(encode(heap, line, 2, n, 2, l + 1)?, Err(LineRefusal::WrongLength))?;
+        check_eq(
+            encode(heap, line, 2, n, 2, l + 1)?,
+            Err(LineRefusal::WrongLength),
+        )?;
         if n > 0 && l > 0 {
-            check_eq(encode(heap, line, 1, n, 1, l - 1)?, Err(LineRefusal::WrongLength))?;
-            check_eq(decode(heap, line, 1, l, n - 1)?, Err(LineRefusal::WrongLength))?;
+            check_eq(
+                encode(heap, line, 1, n, 1, l - 1)?,
+                Err(LineRefusal::WrongLength),
+            )?;
+            check_eq(
+                decode(heap, line, 1, l, n - 1)?,
+                Err(LineRefusal::WrongLength),
+            )?;
             check_eq(encode(heap, line, 2, n, 1, l)?, Err(LineRefusal::NotABit))?;
             check_eq(decode(heap, line, 2, l, n)?, Err(LineRefusal::NotABit))?;
         }
@@ -67,21 +95,47 @@ mod tests {
     }
 
     // Each length is taken with its line length, and `beyond` is not.
-    fn bounds<L: Line>(heap: Global, line: &L, lengths: [(usize, usize); 6], beyond: usize) -> Result<(), Fail> {
+    fn bounds<L: Line>(
+        heap: Global,
+        line: &L,
+        lengths: [(usize, usize); 6],
+        beyond: usize,
+    ) -> Result<(), Fail> {
         for (n, l) in lengths {
             takes(heap, line, n, l)?;
         }
         check_eq(line.line_length(beyond), None)?;
-        check_eq(encode(heap, line, 0, beyond, 0, 4096)?, Err(LineRefusal::WrongLength))?;
-        check_eq(decode(heap, line, 0, 4096, beyond)?, Err(LineRefusal::WrongLength))
+        check_eq(
+            encode(heap, line, 0, beyond, 0, 4096)?,
+            Err(LineRefusal::WrongLength),
+        )?;
+        check_eq(
+            decode(heap, line, 0, 4096, beyond)?,
+            Err(LineRefusal::WrongLength),
+        )
     }
 
     #[test]
     fn stages(rt: LibcRuntime) -> Result<(), Fail> {
         let heap = rt.alloc();
-        bounds(heap, &Scrambling, [(0, 0), (1, 1), (22, 22), (23, 23), (244, 244), (4096, 4096)], 4097)?;
-        bounds(heap, &Repetition, [(0, 0), (1, 4), (22, 88), (23, 92), (244, 976), (1024, 4096)], 1025)?;
-        bounds(heap, &Differential, [(0, 1), (1, 2), (22, 23), (23, 24), (244, 245), (4095, 4096)], 4096)
+        bounds(
+            heap,
+            &Scrambling,
+            [(0, 0), (1, 1), (22, 22), (23, 23), (244, 244), (4096, 4096)],
+            4097,
+        )?;
+        bounds(
+            heap,
+            &Repetition,
+            [(0, 0), (1, 4), (22, 88), (23, 92), (244, 976), (1024, 4096)],
+            1025,
+        )?;
+        bounds(
+            heap,
+            &Differential,
+            [(0, 1), (1, 2), (22, 23), (23, 24), (244, 245), (4095, 4096)],
+            4096,
+        )
     }
 
     #[test]
@@ -98,8 +152,14 @@ mod tests {
     #[test]
     fn no_word_has_no_line_bits_after_differential_coding() -> Result<(), Fail> {
         let mut none: [u8; 0] = [];
-        check_eq(Differential.decode(&[], &mut none), Err(LineRefusal::WrongLength))?;
-        check_eq(STANDARD.decode(&[], &mut none), Err(LineRefusal::WrongLength))?;
+        check_eq(
+            Differential.decode(&[], &mut none),
+            Err(LineRefusal::WrongLength),
+        )?;
+        check_eq(
+            STANDARD.decode(&[], &mut none),
+            Err(LineRefusal::WrongLength),
+        )?;
         check_eq(BENCH.decode(&[], &mut none), Ok(()))
     }
 
@@ -107,19 +167,67 @@ mod tests {
     fn scrambling_leaves_22_bits_and_then_adds_0x29da() -> Result<(), Fail> {
         let mut out = [1u8; 38];
         check_eq(Scrambling.encode(&[0; 38], 0, &mut out), Ok(()))?;
-        check_eq(out, [0, 0, 0, 0, 0, 0, 0, 0, 0, 0, 0, 0, 0, 0, 0, 0, 0, 0, 0, 0, 0, 0, 0, 0, 1, 0, 1, 0, 0, 1, 1, 1, 0, 1, 1, 0, 1, 0])
+        check_eq(
+            out,
+            [
+                0,
+                0,
+                0,
+                0,
+                0,
+                0,
+                0,
+                0,
+                0,
+                0,
+                0,
+                0,
+                0,
+                0,
+                0,
+                0,
+                0,
+                0,
+                0,
+                0,
+                0,
+                0,
+                0,
+                0,
+                1,
+                0,
+                1,
+                0,
+                0,
+                1,
+                1,
+                1,
+                0,
+                1,
+                1,
+                0,
+                1,
+                0,
+            ],
+        )
     }
 
     #[test]
     fn a_tie_gives_0() -> Result<(), Fail> {
         let mut out = [1u8; 4];
-        check_eq(Repetition.decode(&[1, 1, 1, 0, 1, 1, 0, 0, 1, 0, 0, 0, 1, 1, 1, 0], &mut out), Ok(()))?;
+        check_eq(
+            Repetition.decode(&[1, 1, 1, 0, 1, 1, 0, 0, 1, 0, 0, 0, 1, 1, 1, 0], &mut out),
+            Ok(()),
+        )?;
         check_eq(out, [1, 1, 0, 0])
     }
 
     #[test]
     fn the_upper_line_has_the_last_bit_0() -> Result<(), Fail> {
-        let twice = Cascade { upper: Differential, lower: Differential };
+        let twice = Cascade {
+            upper: Differential,
+            lower: Differential,
+        };
         let mut out = [0u8; 5];
         check_eq(twice.encode(&[1, 1, 0], 1, &mut out), Ok(()))?;
         check_eq(out, [1, 1, 0, 0, 0])
@@ -127,7 +235,12 @@ mod tests {
 
     #[test]
     fn marks() -> Result<(), Fail> {
-        for (mark, line) in [(0, None), (1, Some(MarkedLine::Standard)), (2, Some(MarkedLine::Bench)), (3, None)] {
+        for (mark, line) in [
+            (0, None),
+            (1, Some(MarkedLine::Standard)),
+            (2, Some(MarkedLine::Bench)),
+            (3, None),
+        ] {
             check_eq(MarkedLine::from_mark(mark), line)?;
         }
         Ok(())

@@ -10,14 +10,14 @@ pub part-encode-end : need.part-encode-end
 part-encode-end g c =
     let line = c .args .self .now in
     encoded-part _ _ (g .U·Line·met .rules (line .upper)) (g .D·Line·met .rules (line .lower)) (c .args .word .now) (c .in-Some .middle)
-      (c .in-Some-line-length .whole) (c .in-Some .ensures tt) (c .in-Some-line-length .ensures tt) _ (c .encode .last .out)
-      (c .encode .result) (c .encode .ensures .answer) (c .in-Continue-encode .was tt) (c .encode .ensures .output) _
+    (c .in-Some-line-length .whole) (c .in-Some .ensures tt) (c .in-Some-line-length .ensures tt) _ (c .encode .last .out)
+    (c .encode .result) (c .encode .ensures .answer) (c .in-Continue-encode .was tt) (c .encode .ensures .output) _
 
 pub returns : need.returns
 returns g c =
     let line = c .args .self .now in
     let all = encode-all _ _ (g .U·Line·met .rules (line .upper)) (g .D·Line·met .rules (line .lower)) (c .args .word .now) (c .in-Some .middle)
-        (c .in-Some-line-length .whole) (c .in-Some .ensures tt) (c .in-Some-line-length .ensures tt) _ (c .encode .last .out)
-        (c .encode .result) (c .encode .ensures .answer) (c .in-Continue-encode .was tt) (c .encode .ensures .output) _ (c .args .last)
-        (c .args .out .now) (c .encode-2 .last .out) (c .encode-2 .result) (c .encode-2 .ensures .answer) (c .encode-2 .ensures .output) in
+    (c .in-Some-line-length .whole) (c .in-Some .ensures tt) (c .in-Some-line-length .ensures tt) _ (c .encode .last .out)
+    (c .encode .result) (c .encode .ensures .answer) (c .in-Continue-encode .was tt) (c .encode .ensures .output) _ (c .args .last)
+    (c .args .out .now) (c .encode-2 .last .out) (c .encode-2 .result) (c .encode-2 .ensures .answer) (c .encode-2 .ensures .output) in
     record { answer = all .0; output = all .1 }
