@@ -15,29 +15,14 @@ use Rattle.line.specs.Line.{Model, Word, LineRules}
 use Rattle.line.specs.Calls.{fits}
 use Rattle.line.specs.Laws.{Undamaged, SomeLineBit, NoLength, OtherLength, DecodeLengths}
 use Rattle.line.proofs.Answers.{fits-from}
-
-distance-self : (xs : List ℕ) → distance xs xs ≡ 0
-unfolding distance
-distance-self [] = refl
-distance-self (x ∷ xs) = grind (arith, tells, distance-self xs)
-
--- words at no distance are the same
-same : (xs ys : List ℕ) → distance xs ys ≤ 0 → xs ≡ ys
-unfolding distance
-same [] [] h = refl
-same [] (y ∷ ys) h = absurd (omega arith)
-same (x ∷ xs) [] h = absurd (omega arith)
-same (x ∷ xs) (y ∷ ys) h =
-    let rest : xs ≡ ys = same xs ys (omega arith) in
-    let first : x ≡ y = grind (arith, tells) in
-    cc
+use Rattle.line.proofs.Distances.{distance-self, same-from-distance}
 
 pub undamaged : Undamaged
 undamaged m r n w last t word hb =
     let y = m .encode w last in
     let far = r .near n w last y t word hb (r .encodes n w last t word hb) in
     let none : m .growth (distance y y) ≡ 0 = ap (m .growth) (distance-self y) ∙ r .none in
-    same (m .decode y) w (omega arith)
+    same-from-distance (m .decode y) w (omega arith)
 
 -- n times the same bit
 constant-bits : (n b : ℕ) → b < 2 → areBits (replicate n b) ≡ true

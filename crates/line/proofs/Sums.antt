@@ -68,6 +68,13 @@ bits-append (x ∷ xs) ys h k =
     let p = and-parts (ltb x 2) (areBits xs) h in
     and-from (ltb x 2) (areBits (xs ++ ys)) (p .0) (bits-append xs ys (p .1) k)
 
+pub bits-set : (xs : List ℕ) (i v : ℕ) → areBits xs ≡ true → v < 2 → areBits (set xs i v) ≡ true
+bits-set [] i v h k = refl
+bits-set (x ∷ xs) zero v h k = and-from (ltb v 2) (areBits xs) (lt-ltb v 2 k) (and-parts (ltb x 2) (areBits xs) h .1)
+bits-set (x ∷ xs) (suc i) v h k =
+    let p = and-parts (ltb x 2) (areBits xs) h in
+    and-from (ltb x 2) (areBits (set xs i v)) (p .0) (bits-set xs i v (p .1) k)
+
 -- a word made from a function of the place
 pub length-listed : (f : ℕ → ℕ) (n : ℕ) → length (listed f n) ≡ n
 length-listed f n = length-map-counting f 0 n

@@ -38,16 +38,21 @@ fits m n l = m .takes n && eqb (m .lineLength n) l
 abbrev pub verdict : Bool → Bool → Result (Unit {0}) LineRefusal
 verdict lengths octets = cond lengths (cond octets (Ok tt) (Err NotABit)) (Err WrongLength)
 
--- encode of the word w after a last bit, with an output that holds o
+-- an output that held old: a call that refuses leaves it as it was
+abbrev pub written : Result (Unit {0}) LineRefusal → List ℕ → List ℕ → List ℕ
+written (Ok u) new old = new
+written (Err e) new old = old
+
+-- encode of the word w after a last bit, into an output that holds o
 abbrev pub encodeAnswer : Model → List ℕ → ℕ → List ℕ → Result (Unit {0}) LineRefusal
 encodeAnswer m w last o = verdict (fits m (length w) (length o)) (areBits w && ltb last 2)
 
 abbrev pub encodeOutput : Model → List ℕ → ℕ → List ℕ → List ℕ
-encodeOutput m w last o = cond (fits m (length w) (length o) && (areBits w && ltb last 2)) (m .encode w last) o
+encodeOutput m w last o = written (encodeAnswer m w last o) (m .encode w last) o
 
--- decode of the line bits x, with an output that holds o
+-- decode of the line bits x, into an output that holds o
 abbrev pub decodeAnswer : Model → List ℕ → List ℕ → Result (Unit {0}) LineRefusal
 decodeAnswer m x o = verdict (fits m (length o) (length x)) (areBits x)
 
 abbrev pub decodeOutput : Model → List ℕ → List ℕ → List ℕ
-decodeOutput m x o = cond (fits m (length o) (length x) && areBits x) (m .decode x) o
+decodeOutput m x o = written (decodeAnswer m x o) (m .decode x) o

@@ -1,5 +1,9 @@
 //! Lines: how a word of bits goes onto the line as line bits, and comes off it.
 
+ghost use mathlib.Core.Path.{_≡_};
+ghost use Rattle.line.specs.Line.{Model, LineRules};
+ghost use Rattle.line.specs.Calls.{lengthOf, encodeAnswer, encodeOutput, decodeAnswer, decodeOutput};
+
 mod bits;
 mod cascade;
 pub mod laws;
@@ -28,9 +32,6 @@ pub use stages::repetition::Repetition;
 pub use stages::repetition::RepetitionLine;
 pub use stages::scrambling::Scrambling;
 pub use stages::scrambling::ScramblingLine;
-ghost use mathlib.Core.Path.{_≡_};
-ghost use Rattle.line.specs.Line.{Model, LineRules};
-ghost use Rattle.line.specs.Calls.{lengthOf, encodeAnswer, encodeOutput, decodeAnswer, decodeOutput};
 
 /// The most bits that a word has, and the most line bits.
 pub const LONGEST: usize = 4096;
