@@ -27,7 +27,8 @@ module _ (m : Model) (rules : LineRules m) (w : List ℕ) (last : ℕ) (o y : Li
 
   pub taken : m .takes (length w) ≡ true
   taken =
-      and-parts (m .takes (length w)) (eqb (m .lineLength (length w)) (length o)) (ok-lengths _ (areBits w && ltb last 2) (sym answer ∙ ok)) .0
+      and-parts (m .takes (length w)) (eqb (m .lineLength (length w)) (length o))
+      (ok-lengths _ (areBits w && ltb last 2) (sym answer ∙ ok)) .0
 
   pub last-bit : last < 2
   last-bit = ltb-true last 2 (and-parts (areBits w) (ltb last 2) octets .1)
@@ -39,7 +40,8 @@ module _ (m : Model) (rules : LineRules m) (w : List ℕ) (last : ℕ) (o y : Li
   line = subst (Word (m .lineLength (length w))) (sym encoded) (rules .encodes (length w) w last taken word last-bit)
 
   -- line bits that differ from those sent in at most k places
-  pub damaged : (x : List ℕ) (k : ℕ) → length x ≡ length y → areBits x ≡ true → distance x y ≤ k → distance (m .decode x) w ≤ m .growth k
+  pub damaged : (x : List ℕ) (k : ℕ) → length x ≡ length y → areBits x ≡ true → distance x y ≤ k →
+      distance (m .decode x) w ≤ m .growth k
   damaged x k l hx d =
       le-trans (rules .near (length w) w last x taken word last-bit (l ∙ line .0, hx))
       (rules .rising _ _ (subst (λ (z : List ℕ). distance x z ≤ k) encoded d))

@@ -19,14 +19,16 @@ use Rattle.line.specs.Calls.{lengthOf, fits, verdict, encodeAnswer, encodeOutp
 pub fits-from : (m : Model) (n l : ℕ) → m .takes n ≡ true → m .lineLength n ≡ l → fits m n l ≡ true
 fits-from m n l t e = and-from (m .takes n) (eqb (m .lineLength n) l) t (eq-eqb (m .lineLength n) l e)
 
-module _ (m : Model) (w : List ℕ) (last : ℕ) (o : List ℕ) (t : m .takes (length w) ≡ true) (e : m .lineLength (length w) ≡ length o) (hw : areBits w ≡ true) (hb : last < 2) where
+module _ (m : Model) (w : List ℕ) (last : ℕ) (o : List ℕ) (t : m .takes (length w) ≡ true) (e : m .lineLength (length w) ≡ length o)
+    (hw : areBits w ≡ true) (hb : last < 2) where
   pub encode-ok : Ok tt ≡ encodeAnswer m w last o
   encode-ok = rw (fits-from m (length w) (length o) t e, hw, lt-ltb last 2 hb)
 
   pub encode-written : (out : List ℕ) → out ≡ m .encode w last → out ≡ encodeOutput m w last o
   encode-written out is = rw (fits-from m (length w) (length o) t e, hw, lt-ltb last 2 hb) is
 
-module _ (m : Model) (x o : List ℕ) (t : m .takes (length o) ≡ true) (e : m .lineLength (length o) ≡ length x) (hx : areBits x ≡ true) where
+module _ (m : Model) (x o : List ℕ) (t : m .takes (length o) ≡ true) (e : m .lineLength (length o) ≡ length x)
+    (hx : areBits x ≡ true) where
   pub decode-ok : Ok tt ≡ decodeAnswer m x o
   decode-ok = rw (fits-from m (length o) (length x) t e, hx)
 

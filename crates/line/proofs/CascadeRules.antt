@@ -27,13 +27,15 @@ module _ (u d : Model) (ru : LineRules u) (rd : LineRules d) where
   middle : (n : ℕ) (w : List ℕ) → cascade u d .takes n ≡ true → Word n w → Word (u .lineLength n) (u .encode w 0)
   middle n w t word = ru .encodes n w 0 (upper-takes n t) word (lit< tt)
 
-  middle-back : (n : ℕ) (x : List ℕ) → cascade u d .takes n ≡ true → Word (cascade u d .lineLength n) x → Word (u .lineLength n) (d .decode x)
+  middle-back : (n : ℕ) (x : List ℕ) → cascade u d .takes n ≡ true → Word (cascade u d .lineLength n) x →
+      Word (u .lineLength n) (d .decode x)
   middle-back n x t line = rd .decodes (u .lineLength n) x (lower-takes n t) line
 
   pub cascade-rules : LineRules (cascade u d)
   cascade-rules = record {
     longer = λ a b ta tb h.
-        rd .longer (u .lineLength a) (u .lineLength b) (lower-takes a ta) (lower-takes b tb) (ru .longer a b (upper-takes a ta) (upper-takes b tb) h);
+        rd .longer (u .lineLength a) (u .lineLength b) (lower-takes a ta) (lower-takes b tb)
+        (ru .longer a b (upper-takes a ta) (upper-takes b tb) h);
     short = λ n t. (ru .short n (upper-takes n t) .0, rd .short (u .lineLength n) (lower-takes n t) .1);
     encodes = λ n w last t word hb. rd .encodes (u .lineLength n) (u .encode w 0) last (lower-takes n t) (middle n w t word) hb;
     decodes = λ n x t line. ru .decodes n (d .decode x) (upper-takes n t) (middle-back n x t line);

@@ -11,7 +11,8 @@ use Rattle.coding.specs.Bits.{areBits, plus}
 use Rattle.coding.specs.Distance.{distance}
 use Rattle.line.specs.Line.{LineRules}
 use Rattle.line.specs.Stages.{listed, running, differential}
-use Rattle.line.proofs.Sums.{apart, total, total-le, total-plus, total-join, distance-total, bit-at, bits-listed, length-listed, getD-listed, plus-bit, plus-apart}
+use Rattle.line.proofs.Sums.{apart, total, total-le, total-plus, total-join, distance-total, bit-at, plus-bit, plus-apart}
+use Rattle.line.proofs.Sums.{bits-listed, length-listed, getD-listed}
 
 pub running-bit : (w : List ℕ) (last : ℕ) → last < 2 → (i : ℕ) → running w last i < 2
 running-bit w last h zero = h
@@ -23,7 +24,8 @@ back w last i h hw =
     let r = running-bit w last h i in
     rw (add-one i) (omega arith)
 
-module _ (w : List ℕ) (last : ℕ) (x : List ℕ) (hw : areBits w ≡ true) (hb : last < 2) (hx : areBits x ≡ true) (l : length x ≡ length w + 1) where
+module _ (w : List ℕ) (last : ℕ) (x : List ℕ) (hw : areBits w ≡ true) (hb : last < 2) (hx : areBits x ≡ true)
+    (l : length x ≡ length w + 1) where
   -- a wrong bit of the word has a wrong line bit on one side of it
   place : (i : ℕ) → i < length w → apart (getD (differential .decode x) i 0) (getD w i 0) ≤
       apart (getD x i 0) (getD (differential .encode w last) i 0) + apart (getD x (1 + i) 0) (getD (differential .encode w last) (1 + i) 0)
@@ -44,7 +46,8 @@ module _ (w : List ℕ) (last : ℕ) (x : List ℕ) (hw : areBits w ≡ true) (h
       let y = differential .encode w last in
       let d : ℕ → ℕ = λ i. apart (getD x i 0) (getD y i 0) in
       let ly : length y ≡ n + 1 = length-listed (running w last) (n + 1) in
-      let lx : length (differential .decode x) ≡ n = length-listed (λ i. plus (getD x i 0) (getD x (i + 1) 0)) (length x - 1) ∙ omega arith in
+      let lx : length (differential .decode x) ≡ n =
+      length-listed (λ i. plus (getD x i 0) (getD x (i + 1) 0)) (length x - 1) ∙ omega arith in
       let line : distance x y ≡ total d (n + 1) = distance-total x y (l ∙ sym ly) ∙ ap (total d) ly in
       let word = distance-total (differential .decode x) w lx in
       let front : total d (n + 1) ≡ total d n + total (λ i. d (n + i)) 1 = total-join d n 1 in

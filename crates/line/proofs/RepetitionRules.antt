@@ -13,7 +13,8 @@ use Rattle.coding.specs.Bits.{areBits}
 use Rattle.coding.specs.Distance.{distance}
 use Rattle.line.specs.Line.{LineRules}
 use Rattle.line.specs.Stages.{listed, vote, voted, repetition}
-use Rattle.line.proofs.Sums.{apart, total, total-le, total-plus, total-double, total-join, distance-total, bit-at, bits-append, bits-listed, length-listed, getD-listed}
+use Rattle.line.proofs.Sums.{apart, total, total-le, total-plus, total-double, total-join, distance-total, bit-at, bits-append}
+use Rattle.line.proofs.Sums.{bits-listed, length-listed, getD-listed}
 
 vote-bit : (a b c d : ℕ) → vote a b c d < 2
 vote-bit a b c d = grind (arith, tells)
@@ -46,7 +47,8 @@ copy-3 w i h =
     ∙ getD-append-add w w i 0
 
 -- a sum over four times n places, by turns
-total-four : (f : ℕ → ℕ) (n : ℕ) → total f (n + (n + (n + n))) ≡ total (λ i. f i + f (n + i) + f (n + (n + i)) + f (n + (n + (n + i)))) n
+total-four : (f : ℕ → ℕ) (n : ℕ) →
+    total f (n + (n + (n + n))) ≡ total (λ i. f i + f (n + i) + f (n + (n + i)) + f (n + (n + (n + i)))) n
 total-four f n =
     let a = total-join f n (n + (n + n)) in
     let b = total-join (λ i. f (n + i)) n (n + n) in
@@ -85,7 +87,8 @@ module _ (w x : List ℕ) (hw : areBits w ≡ true) (hx : areBits x ≡ true) (l
       let e : ℕ → ℕ = λ j. apart (getD x j 0) (getD (copies w) j 0) in
       let f : ℕ → ℕ = λ j. apart (getD (repetition .decode x) j 0) (getD w j 0) in
       let ly = copies-length w in
-      let line : distance x (copies w) ≡ total e (n + (n + (n + n))) = distance-total x (copies w) (l ∙ sym ly) ∙ ap (total e) (omega arith) in
+      let line : distance x (copies w) ≡ total e (n + (n + (n + n))) =
+      distance-total x (copies w) (l ∙ sym ly) ∙ ap (total e) (omega arith) in
       let lx : length (repetition .decode x) ≡ n = length-listed (voted x (length x / 4)) (length x / 4) ∙ omega arith in
       let word : distance (repetition .decode x) w ≡ total f n = distance-total (repetition .decode x) w lx in
       let turns = total-four e n in
@@ -117,9 +120,6 @@ pub copies-from : (w out : List ℕ) → length out ≡ 4 * length w →
     out ≡ repetition .encode w 0
 copies-from w out l f = ext-getD 0 out (copies w) (l ∙ sym (copies-length w)) place
   where
-    n : ℕ
-    n = length w
-
     at : (i j k : ℕ) → i ≡ j → i ≡ k → getD out j 0 ≡ getD (copies w) k 0 → getD out i 0 ≡ getD (copies w) i 0
     at i j k p q e = ap (λ (z : ℕ). getD out z 0) p ∙ e ∙ ap (λ (z : ℕ). getD (copies w) z 0) (sym q)
 

@@ -16,7 +16,8 @@ use Rattle.line.specs.Stages.{shifted, sequence, mask, scrambled, scrambling}
 use Rattle.line.specs.Laws.{ScramblingSequence}
 use Rattle.line.proofs.Sums.{apart, total, total-le, distance-total, bit-at, bits-listed, length-listed, getD-listed, plus-bit}
 
-shifted-bit : (n a b c d e f g h i : ℕ) → a < 2 → b < 2 → c < 2 → d < 2 → e < 2 → f < 2 → g < 2 → h < 2 → i < 2 → shifted n a b c d e f g h i < 2
+shifted-bit : (n a b c d e f g h i : ℕ) → a < 2 → b < 2 → c < 2 → d < 2 → e < 2 → f < 2 → g < 2 → h < 2 → i < 2 →
+    shifted n a b c d e f g h i < 2
 unfolding shifted
 shifted-bit zero a b c d e f g h i ka kb kc kd ke kf kg kh ki = ka
 shifted-bit (suc n) a b c d e f g h i ka kb kc kd ke kf kg kh ki =
@@ -25,7 +26,8 @@ shifted-bit (suc n) a b c d e f g h i ka kb kc kd ke kf kg kh ki =
 pub sequence-bit : (n : ℕ) → sequence n < 2
 sequence-bit n = shifted-bit n 0 0 1 0 0 0 0 0 1 (lit< tt) (lit< tt) (lit< tt) (lit< tt) (lit< tt) (lit< tt) (lit< tt) (lit< tt) (lit< tt)
 
-shifted-nine : (n a b c d e f g h i : ℕ) → shifted (n + 9) a b c d e f g h i ≡ plus (shifted n a b c d e f g h i) (shifted (n + 4) a b c d e f g h i)
+shifted-nine : (n a b c d e f g h i : ℕ) →
+    shifted (n + 9) a b c d e f g h i ≡ plus (shifted n a b c d e f g h i) (shifted (n + 4) a b c d e f g h i)
 unfolding shifted
 shifted-nine zero a b c d e f g h i = refl
 shifted-nine (suc n) a b c d e f g h i = rw (suc-add n 9, suc-add n 4) (shifted-nine n b c d e f g h i (plus a e))

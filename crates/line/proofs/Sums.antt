@@ -44,7 +44,8 @@ total-join f zero b = simp zero-add
 total-join f (suc a) b = simp suc-add (omega (arith, total-join (λ i. f (suc i)) a b))
 
 -- the distance of words of one length
-pub distance-total : (xs ys : List ℕ) → length xs ≡ length ys → distance xs ys ≡ total (λ i. apart (getD xs i 0) (getD ys i 0)) (length ys)
+pub distance-total : (xs ys : List ℕ) → length xs ≡ length ys →
+    distance xs ys ≡ total (λ i. apart (getD xs i 0) (getD ys i 0)) (length ys)
 unfolding distance
 distance-total [] [] l = refl
 distance-total [] (y ∷ ys) l = absurd (omega arith)

@@ -27,7 +27,8 @@ pub record LineRules (m : Model) : Type 0 where
   -- no word and no line bits are longer than 4,096
   pub short : (n : ℕ) → m .takes n ≡ true → (n ≤ 4096) × (m .lineLength n ≤ 4096)
   -- encode makes line bits of a word, and decode a word of line bits
-  pub encodes : (n : ℕ) (w : List ℕ) (last : ℕ) → m .takes n ≡ true → Word n w → last < 2 → Word (m .lineLength n) (m .encode w last)
+  pub encodes : (n : ℕ) (w : List ℕ) (last : ℕ) → m .takes n ≡ true → Word n w → last < 2 →
+      Word (m .lineLength n) (m .encode w last)
   pub decodes : (n : ℕ) (x : List ℕ) → m .takes n ≡ true → Word (m .lineLength n) x → Word n (m .decode x)
   -- no errors cause none, and more errors cause no fewer
   pub none : m .growth 0 ≡ 0

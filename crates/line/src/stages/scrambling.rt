@@ -2,8 +2,10 @@
 
 ghost use mathlib.Core.Path.{_≡_};
 ghost use mathlib.Core.Bool.{true};
-ghost use lib.ListN.{length};
-ghost use Rattle.coding.specs.Bits.{areBits};
+ghost use Prim.Native.Nat.{_<_};
+ghost use lib.Dec.{leb};
+ghost use lib.ListN.{length, getD};
+ghost use Rattle.coding.specs.Bits.{areBits, plus};
 ghost use Rattle.line.specs.Stages.{scrambling as scramblingModel, scrambled};
 use crate::LONGEST;
 use crate::Line;
@@ -55,13 +57,28 @@ fn scramble(word: &[u8], out: &mut [u8])
 {
     let mut register: [u8; 9] = [0, 0, 1, 0, 0, 0, 0, 0, 1];
     for (i, bit) in word.iter().enumerate() {
-        if i < UNSCRAMBLED {
-            out[i] = *bit;
-        } else {
-            let next = sum(register[0], register[4]);
+        if is_scrambled(i) {
+            let next = feedback(&register);
             let [_, a, b, c, d, e, f, g, h] = register;
             register = [a, b, c, d, e, f, g, h, next];
             out[i] = sum(*bit, next);
+        } else {
+            out[i] = *bit;
         }
     }
+}
+
+/// Whether the sequence is added to the bit at this place.
+fn is_scrambled(place: usize) -> bool
+    ensures { λ r. ⌜ r ≡ leb 22 place ⌝ }
+{
+    place >= UNSCRAMBLED
+}
+
+/// The next bit of the sequence after the nine in the register: the sum of the ninth before it and the fifth.
+fn feedback(register: &[u8; 9]) -> u8
+    requires { ⌜ getD (now register) 0 0 < 2 ⌝ ∗ ⌜ getD (now register) 4 0 < 2 ⌝ }
+    ensures { λ r. ⌜ r ≡ plus (getD (now (register .entry)) 0 0) (getD (now (register .entry)) 4 0) ⌝ }
+{
+    sum(register[0], register[4])
 }

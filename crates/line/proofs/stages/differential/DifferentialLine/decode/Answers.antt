@@ -34,5 +34,6 @@ returns c =
     record {
       answer = decode-ok differential x o takes size hx;
       output = decode-written differential x o takes size hx (c .loop-i .out)
-          (fill-by-all (λ i. plus (getD x i 0) (getD x (i + 1) 0)) (c .loop-i .out) (length x - 1) 0 (omega arith) (λ k h. c .loop-i .inv k (omega arith)));
+          (fill-by-all (λ i. plus (getD x i 0) (getD x (i + 1) 0)) (c .loop-i .out) (length x - 1) 0 (omega arith)
+          (λ k h. c .loop-i .inv k (omega arith)));
     }

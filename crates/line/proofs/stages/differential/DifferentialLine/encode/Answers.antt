@@ -27,7 +27,8 @@ loop-i-again c =
     let b = c .args .last in
     let i = c .loop-i .i in
     let bit : c .sum-line-bit .result ≡ running w b (i + 1) = c .sum-line-bit .ensures ∙ rw (add-one i, c .loop-i .inv .0) in
-    let room : i + 1 < length (c .loop-i .out) = omega (arith, length-set (c .args .out .now) 0 b) in
+    let long : length (c .loop-i .out) ≡ length (c .args .out .now) = c .loop-i .kept .out ∙ length-set _ _ _ in
+    let room : i + 1 < length (c .loop-i .out) = omega arith in
     (bit, λ k h. rw bit (fill-by-more (running w b) (c .loop-i .out) (i + 1) 0 room (c .loop-i .inv .1) k h))
 
 pub returns : need.returns
@@ -39,8 +40,9 @@ returns c =
     let takes : leb (length w + 1) 4096 ≡ true = le-leb _ _ (omega arith) in
     let size : length w + 1 ≡ length o = omega arith in
     let hb : b < 2 = omega arith in
+    let long : length (c .loop-i .out) ≡ length o = c .loop-i .kept .out ∙ length-set _ _ _ in
     record {
       answer = encode-ok differential w b o takes size hw hb;
       output = encode-written differential w b o takes size hw hb (c .loop-i .out)
-          (fill-by-all (running w b) (c .loop-i .out) (length w + 1) 0 (omega (arith, length-set o 0 b)) (λ k h. c .loop-i .inv .1 k (omega arith)));
+          (fill-by-all (running w b) (c .loop-i .out) (length w + 1) 0 (long ∙ sym size) (λ k h. c .loop-i .inv .1 k (omega arith)));
     }
