@@ -1,20 +1,20 @@
 -- A cascade of two lines that keep the rules keeps the rules.
 use mathlib.Core.Path.{_≡_, refl, sym, ap, _∙_}
 use mathlib.Core.List.{List, _++_}
-use mathlib.Core.Bool.{true}
+use mathlib.Core.Bool.{Bool, true, false, cond}
 use Prim.Native.Nat.{ℕ, _-_, _<_, _≤_}
 use native.Mathlib.Nat.{le-trans}
-use lib.Dec.{lit<}
+use lib.Dec.{eqb, lit<}
 use lib.ListN.{length, take}
-use Rattle.std.specs.declared.option.Option.the-variants.{Some}
+use Rattle.std.specs.declared.option.Option.the-variants.{Some, None}
 use Rattle.std.specs.declared.result.Result.{Result}
 use Rattle.std.specs.declared.result.Result.the-variants.{Ok}
-use Rattle.std.proofs.shelf.Tests.{and-parts, and-from}
+use Rattle.std.proofs.shelf.Tests.{and-parts, eqb-true}
 use Rattle.line.specs.Line.{Model, Word, LineRules}
 use Rattle.line.specs.declared.refusal.LineRefusal.{LineRefusal}
-use Rattle.line.specs.Calls.{lengthOf, encodeAnswer, encodeOutput, decodeAnswer, decodeOutput}
+use Rattle.line.specs.Calls.{fits, middleOf, encodeAnswer, encodeOutput, decodeAnswer, decodeOutput}
 use Rattle.line.specs.Stages.{cascade}
-use Rattle.line.proofs.Answers.{length-some, encode-done, decode-done, decode-ok, decode-written, le-front, take-front}
+use Rattle.line.proofs.Answers.{encode-done, decode-done, decode-ok, decode-written, le-front, take-front}
 
 module _ (u d : Model) (ru : LineRules u) (rd : LineRules d) where
   upper-takes : (n : ℕ) → cascade u d .takes n ≡ true → u .takes n ≡ true
@@ -46,18 +46,23 @@ module _ (u d : Model) (ru : LineRules u) (rd : LineRules d) where
         (ru .rising _ _ (rd .near (u .lineLength n) (u .encode w 0) last x (lower-takes n t) (middle n w t word) hb line));
   }
 
-  -- The calls. Both ask first for the length in the middle and for the line length.
-  taken : (n l k : ℕ) → Some l ≡ lengthOf u n → Some k ≡ lengthOf d l → cascade u d .takes n ≡ true
-  taken n l k first second =
-      let s = length-some u n l first in
-      let t = length-some d l k second in
-      and-from (u .takes n) (d .takes (u .lineLength n)) (s .0) (rw (s .1) (t .0))
+  -- The calls. Both ask first for the number of bits in the middle.
+  fit : (n k l : ℕ) → Some l ≡ middleOf u d n k →
+      (cascade u d .takes n ≡ true) × (cascade u d .lineLength n ≡ k) × (u .lineLength n ≡ l)
+  fit n k l e = split (fits (cascade u d) n k) refl e
+    where
+      split : (b : Bool) → fits (cascade u d) n k ≡ b → Some l ≡ cond b (Some (u .lineLength n)) None →
+          (cascade u d .takes n ≡ true) × (cascade u d .lineLength n ≡ k) × (u .lineLength n ≡ l)
+      split true f s =
+          let p = and-parts (cascade u d .takes n) (eqb (cascade u d .lineLength n) k) f in
+          (p .0, eqb-true (cascade u d .lineLength n) k (p .1), cc)
+      split false f s = (cc, cc, cc)
 
-  pub in-room : (n l : ℕ) → Some l ≡ lengthOf u n → l ≤ 4096
-  in-room n l first = let s = length-some u n l first in rw (s .1) at (ru .short n (s .0) .1)
+  pub in-room : (n k l : ℕ) → Some l ≡ middleOf u d n k → l ≤ 4096
+  in-room n k l e = let p = fit n k l e in rw (p .2) at (ru .short n (upper-takes n (p .0)) .1)
 
   -- Encode: the upper line wrote y, the front of the room, and answered r.
-  module _ (w : List ℕ) (l k : ℕ) (first : Some l ≡ lengthOf u (length w)) (second : Some k ≡ lengthOf d l)
+  module _ (w : List ℕ) (k l : ℕ) (found : Some l ≡ middleOf u d (length w) k)
       (room y : List ℕ) (r : Result (Unit {0}) LineRefusal)
       (answer : r ≡ encodeAnswer u w 0 room) (ok : r ≡ Ok tt) (output : y ≡ encodeOutput u w 0 room) where
     word : Word (length w) w
@@ -67,10 +72,10 @@ module _ (u d : Model) (ru : LineRules u) (rd : LineRules d) where
     encoded = encode-done u w 0 room y r answer ok output .1
 
     taken-word : cascade u d .takes (length w) ≡ true
-    taken-word = taken (length w) l k first second
+    taken-word = fit (length w) k l found .0
 
     encoded-length : length y ≡ l
-    encoded-length = ap length encoded ∙ middle (length w) w taken-word word .0 ∙ length-some u (length w) l first .1
+    encoded-length = ap length encoded ∙ middle (length w) w taken-word word .0 ∙ fit (length w) k l found .2
 
     pub encoded-part : (rest : List ℕ) → l ≤ length (y ++ rest)
     encoded-part rest = le-front l y rest encoded-length
@@ -89,23 +94,20 @@ module _ (u d : Model) (ru : LineRules u) (rd : LineRules d) where
         )
 
   -- Decode: the lower line wrote y, the front of the room, and answered r.
-  module _ (x o : List ℕ) (l k : ℕ) (first : Some l ≡ lengthOf u (length o)) (second : Some k ≡ lengthOf d l) (whole : k ≡ length x)
+  module _ (x o : List ℕ) (l : ℕ) (found : Some l ≡ middleOf u d (length o) (length x))
       (room y : List ℕ) (r : Result (Unit {0}) LineRefusal)
       (answer : r ≡ decodeAnswer d x room) (ok : r ≡ Ok tt) (output : y ≡ decodeOutput d x room) where
     decoded : y ≡ d .decode x
     decoded = decode-done d x room y r answer ok output .1
 
     taken-line : cascade u d .takes (length o) ≡ true
-    taken-line = taken (length o) l k first second
+    taken-line = fit (length o) (length x) l found .0
 
     line : Word (cascade u d .lineLength (length o)) x
-    line = (
-      sym whole ∙ sym (length-some d l k second .1) ∙ ap (d .lineLength) (sym (length-some u (length o) l first .1)),
-      decode-done d x room y r answer ok output .0,
-    )
+    line = (sym (fit (length o) (length x) l found .1), decode-done d x room y r answer ok output .0)
 
     decoded-length : length y ≡ l
-    decoded-length = ap length decoded ∙ middle-back (length o) x taken-line line .0 ∙ length-some u (length o) l first .1
+    decoded-length = ap length decoded ∙ middle-back (length o) x taken-line line .0 ∙ fit (length o) (length x) l found .2
 
     pub decoded-part : (rest : List ℕ) → l ≤ length (y ++ rest)
     decoded-part rest = le-front l y rest decoded-length

@@ -12,6 +12,7 @@ use Rattle.coding.specs.Bits.{areBits}
 use Rattle.line.specs.declared.refusal.LineRefusal.{LineRefusal}
 use Rattle.line.specs.declared.refusal.LineRefusal.the-variants.{WrongLength, NotABit}
 use Rattle.line.specs.Line.{Model}
+use Rattle.line.specs.Stages.{cascade}
 
 -- a refusal's number; it speaks of no half and no place
 abbrev pub numberOf : LineRefusal → ℕ
@@ -33,6 +34,10 @@ lengthOf m n = cond (m .takes n) (Some (m .lineLength n)) None
 -- n is taken, and l is its line length
 abbrev pub fits : Model → ℕ → ℕ → Bool
 fits m n l = m .takes n && eqb (m .lineLength n) l
+
+-- the number of bits between the two lines of a cascade, if n is taken there and l is its line length
+abbrev pub middleOf : Model → Model → ℕ → ℕ → Option ℕ
+middleOf upper lower n l = cond (fits (cascade upper lower) n l) (Some (upper .lineLength n)) None
 
 -- lengths are looked at before octets
 abbrev pub verdict : Bool → Bool → Result (Unit {0}) LineRefusal

@@ -1,6 +1,8 @@
 //! One line over another.
 
-ghost use Rattle.line.specs.Stages.{cascade};
+ghost use mathlib.Core.Path.{_≡_};
+ghost use Rattle.line.specs.Calls.{middleOf};
+ghost use Rattle.line.specs.Stages.{cascade as cascadeOf};
 use crate::LONGEST;
 use crate::Line;
 use crate::LineRefusal;
@@ -12,41 +14,40 @@ pub struct Cascade<U: Line, D: Line> {
     pub lower: D,
 }
 
+impl<U: Line, D: Line> Cascade<U, D> {
+    /// The number of bits between the two lines, if words of `n` bits have `l` line bits.
+    fn middle(&self, n: usize, l: usize) -> Option<usize>
+        ensures { λ r. ⌜ r ≡ middleOf (U·Line .model (now (self .entry) .upper)) (D·Line .model (now (self .entry) .lower)) n l ⌝ }
+    {
+        let middle = self.upper.line_length(n)?;
+        if self.lower.line_length(middle)? == l {
+            Some(middle)
+        } else {
+            None
+        }
+    }
+}
+
 pub impl<U: Line, D: Line> Line for Cascade<U, D> as CascadeLine {
-    ghost model = { λ x. cascade (U·Line .model (x .upper)) (D·Line .model (x .lower)) };
+    ghost model = { λ x. cascadeOf (U·Line .model (x .upper)) (D·Line .model (x .lower)) };
 
     fn line_length(&self, n: usize) -> Option<usize> {
-        match self.upper.line_length(n) {
-            Some(middle) => self.lower.line_length(middle),
-            None => None,
-        }
+        self.lower.line_length(self.upper.line_length(n)?)
     }
 
     fn encode(&self, word: &[u8], last: u8, out: &mut [u8]) -> Result<(), LineRefusal> {
-        let Some(middle) = self.upper.line_length(word.len()) else {
+        let Some(middle) = self.middle(word.len(), out.len()) else {
             return Err(LineRefusal::WrongLength);
         };
-        let Some(whole) = self.lower.line_length(middle) else {
-            return Err(LineRefusal::WrongLength);
-        };
-        if whole != out.len() {
-            return Err(LineRefusal::WrongLength);
-        }
         let mut room = [0u8; LONGEST];
         self.upper.encode(word, 0, &mut room[0..middle])?;
         self.lower.encode(&room[0..middle], last, out)
     }
 
     fn decode(&self, bits: &[u8], out: &mut [u8]) -> Result<(), LineRefusal> {
-        let Some(middle) = self.upper.line_length(out.len()) else {
+        let Some(middle) = self.middle(out.len(), bits.len()) else {
             return Err(LineRefusal::WrongLength);
         };
-        let Some(whole) = self.lower.line_length(middle) else {
-            return Err(LineRefusal::WrongLength);
-        };
-        if whole != bits.len() {
-            return Err(LineRefusal::WrongLength);
-        }
         let mut room = [0u8; LONGEST];
         self.lower.decode(bits, &mut room[0..middle])?;
         self.upper.decode(&room[0..middle], out)

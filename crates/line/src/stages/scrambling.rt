@@ -13,7 +13,7 @@ use crate::LineRefusal;
 use crate::bits::are_bits;
 use crate::bits::sum;
 
-/// The first bits of a word, a frame's unique word, go as they are.
+/// The first bits of a word go as they are.
 const UNSCRAMBLED: usize = 22;
 
 /// Adds a fixed sequence to all but the first 22 bits of a word, so that no word makes long runs of one bit.
