@@ -1,0 +1,9 @@
+pub mod Distances
+pub mod Sums
+pub mod Answers
+pub mod DifferentialRules
+pub mod RepetitionRules
+pub mod ScramblingRules
+pub mod Accepted
+pub mod CascadeRules
+pub mod EveryLine
