@@ -1,11 +1,14 @@
 -- What stands in a buffer after octets are written into it.
 use mathlib.Core.Path.{_≡_, refl, sym, ap, ap₂, subst, _∙_}
 use mathlib.Core.List.{List, [], _++_, append-assoc}
-use Prim.Native.Nat.{ℕ, _+_, _≤_}
+use Prim.Native.Nat.{ℕ, _+_, _-_, _≤_}
 use native.Mathlib.Omega.{arith}
 use lib.ListN.{length, take, drop}
 use native.Mathlib.Nat.{zero-add, add-zero}
 use Rattle.std.proofs.shelf.Lists.{take-append-drop, take-at, drop-at, drop-drop, length-append, length-drop, length-take-le}
+use lib.Seq.{take-length}
+use borrow.Rule.Slice.PartMut.{putMid}
+use Rattle.std.proofs.shelf.Parts.{putMid-paste}
 use Rattle.coding.specs.Buffers.{overwritten, Written}
 
 -- what is written at the front is read back
@@ -43,3 +46,16 @@ written-length at end x o p fits w =
 -- nothing is written
 pub written-none : (at : ℕ) (o : List ℕ) → Written at [] o o at
 written-none at o = record { ends = sym (add-zero at); text = sym (ap (λ (n : ℕ). take at o ++ drop n o) (add-zero at) ∙ take-append-drop at o) }
+
+-- a part of n places that octets were written into
+pub written-part : (at n : ℕ) (before part octets : List ℕ) → n ≡ length octets → part ≡ octets → Written at octets before (putMid at (at + n - at) before part) (at + n)
+written-part at n before part octets l e =
+    let width : at + n - at ≡ length octets = omega arith in
+    record {
+      ends = ap (λ (m : ℕ). at + m) l;
+      text =
+        ap (λ (m : ℕ). putMid at m before part) width
+        ∙ putMid-paste at (length octets) before part octets (length octets) e refl refl
+        ∙ append-assoc (take at before) (take (length octets) octets) (drop (at + length octets) before)
+        ∙ ap (λ (z : List ℕ). take at before ++ (z ++ drop (at + length octets) before)) (take-length octets);
+    }
