@@ -2,7 +2,7 @@ use mathlib.Core.Path.{_≡_, refl}
 use mathlib.Core.Bool.{true, false}
 use native.Mathlib.Omega.{arith}
 use borrow.Author.Tests.{both-ways, eqb-true, eqb-false}
-use Prim.Native.Nat.{_<_}
+use Prim.Native.Nat.{ℕ, _<_}
 use lib.Dec.{lit<}
 use lib.ListN.{length, drop}
 use Rattle.solver.proofs.Rows.{free-solved, free-none, pivot-solved, pivot-none, end-solved, end-none, small-set}
@@ -28,7 +28,7 @@ returns-then-not-solve-from t c =
     let h : c .args .col < c .args .v = omega arith in
     record {
       small = c .if-not-solve-from .ensures tt .small;
-      solved = λ e i k. absurd (both-ways false refl e);
+      solved = λ e i k. let z : _≡_ {A = ℕ} 0 1 = cc in omega arith;
       none = λ e. free-none (c .args .rows .now) (c .args .col) (c .args .v) h (c .pre .columns .1)
           (λ k l. c .pivot-p .ensures .before k (omega arith)) (c .if-not-solve-from .ensures tt .none refl);
     }
@@ -50,7 +50,7 @@ returns-then-not-solve-from-2 t c =
     let hp : c .pivot-p .result < length (c .args .rows .now) = omega arith in
     record {
       small = c .if-not-solve-from-2 .ensures tt .small;
-      solved = λ e i k. absurd (both-ways false refl e);
+      solved = λ e i k. let z : _≡_ {A = ℕ} 0 1 = cc in omega arith;
       none = λ e. pivot-none (c .args .rows .now) (c .args .col) (c .args .v) h (c .pre .columns .1)
           (c .pivot-p .result) hp (c .eliminate .last .rows) (omega arith) (c .eliminate .ensures)
           (c .if-not-solve-from-2 .ensures tt .none refl);
