@@ -9,8 +9,8 @@ use std::io::Write;
 /// 75:00:06:B0:FF:FF:01:AC:07, the check octet first.
 const IDENTIFIER: [u8; 9] = [0x75, 0x00, 0x06, 0xB0, 0xFF, 0xFF, 0x01, 0xAC, 0x07];
 
-/// Opens a card, and goes on with it.
-pub fn run(rt: &LibcRuntime) -> io::Result<()> {
+/// Opens a card and draws it up; none if opening it was refused.
+pub fn run(rt: &LibcRuntime) -> io::Result<Option<Card>> {
     println!(
         rt,
         "Opening a card by 76:00:06:B0:FF:FF:01:AC:07, whose check octet is wrong."
@@ -22,23 +22,29 @@ pub fn run(rt: &LibcRuntime) -> io::Result<()> {
     }
     println!(rt, "Opening a card by 75:00:06:B0:FF:FF:01:AC:07.")?;
     match Card::open(&IDENTIFIER) {
-        Ok(card) => draw_up(rt, card),
-        Err(refusal) => tell_refusal(rt, refusal),
+        Ok(mut card) => {
+            draw_up(rt, &mut card)?;
+            Ok(Some(card))
+        }
+        Err(refusal) => {
+            tell_refusal(rt, refusal)?;
+            Ok(None)
+        }
     }
 }
 
 /// Fills a card, changes it and prints it.
-fn draw_up(rt: &LibcRuntime, mut card: Card) -> io::Result<()> {
+fn draw_up(rt: &LibcRuntime, card: &mut Card) -> io::Result<()> {
     println!(rt, "Entering the latitude 1245.90 S.")?;
     tell(rt, card.enter_latitude(12, 4590, 1))?;
     println!(rt, "Entering the longitude 2334.45 E.")?;
     tell(rt, card.enter_longitude(23, 3445, 0))?;
     println!(rt, "Entering the telephone 14803332200e1835.")?;
     tell(rt, card.enter_telephone(b"14803332200e1835"))?;
-    print_card(rt, &card)?;
-    refuse(rt, &mut card)?;
-    change(rt, &mut card)?;
-    print_card(rt, &card)
+    print_card(rt, card)?;
+    refuse(rt, card)?;
+    change(rt, card)?;
+    print_card(rt, card)
 }
 
 /// Enters what no card can hold.

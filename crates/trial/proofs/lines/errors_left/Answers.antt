@@ -1,7 +1,7 @@
 use lib.ListN.{replicate}
 use Rattle.line.proofs.Accepted.{line, damaged}
 use Rattle.line.proofs.Answers.{decode-done}
-use Rattle.trial_line.proofs.errors_left.Needs as need
+use Rattle.trial.proofs.lines.errors_left.Needs as need
 
 pub flip-requires : need.flip-requires
 flip-requires g c κs =
@@ -16,4 +16,4 @@ returns g c =
     (c .flip .kept .bits) (c .flip .ensures .bits) (c .flip .ensures .few) in
     let back = decode-done m (c .flip .last .bits) (replicate 244 0) (c .decode .last .out) (c .decode .result) (c .decode .ensures .answer)
     (c .in-Continue-decode .was tt) (c .decode .ensures .output) .1 in
-    rw (c .differences .ensures, back) bound
+    rw (c .distance .ensures, back) bound

@@ -1,17 +1,12 @@
-use mathlib.Core.Path.{_≡_, sym, ap, _∙_}
-use mathlib.Core.Bool.{true}
-use mathlib.Core.List.{List}
-use Prim.Native.Nat.{ℕ, _+_, _≤_}
 use native.Mathlib.Omega.{arith}
 use lib.Bits.{bitXor, xor-lt}
 use lib.Dec.{lit<}
 use lib.ListN.{getD}
-use Rattle.coding.specs.Bits.{areBits}
-use Rattle.coding.specs.Distance.{distance}
-use Rattle.line.proofs.Distances.{distance-self, distance-set}
+use Rattle.coding.proofs.Distances.{distance-self}
+use Rattle.line.proofs.Distances.{distance-set}
 use Rattle.line.proofs.Sums.{bit-at, bits-set}
-use Rattle.trial_line.proofs.flip.Needs as need
-use Rattle.trial_line.proofs.flip.Needs.{then-place-bits, else-place-bits}
+use Rattle.trial.proofs.lines.flip.Needs as need
+use Rattle.trial.proofs.lines.flip.Needs.{then-place-bits, else-place-bits}
 
 pub loop-place-holds : need.loop-place-holds
 loop-place-holds c = (c .pre, omega (arith, distance-self (c .args .bits .now)))
@@ -23,7 +18,8 @@ loop-place-again c =
     elim (c .if-place-bits .came) [
       | then-place-bits w ↦
           rw (w .bits-is) (
-            bits-set bits place _ (c .loop-place .inv .0) (xor-lt 1 (getD bits place 0) 1 (bit-at bits (c .loop-place .inv .0) place) (lit< tt)),
+            bits-set bits place _ (c .loop-place .inv .0)
+                (xor-lt 1 (getD bits place 0) 1 (bit-at bits (c .loop-place .inv .0) place) (lit< tt)),
             omega (arith, c .loop-place .inv .1, distance-set bits (c .args .bits .now) place (bitXor (getD bits place 0) 1)),
           )
       | else-place-bits w ↦ rw (w .bits-is) (c .loop-place .inv .0, omega (arith, c .loop-place .inv .1))

@@ -1,13 +1,13 @@
-//! Sends a word over the standard's and the bench's line, damages the line bits, and tells what came back.
+//! Sends a word over the standard's and the bench's line, damages the line bits, and tells how many errors are left.
 
 ghost use mathlib.Core.Path.{_≡_};
-ghost use mathlib.Core.Bool.{true, cond};
+ghost use mathlib.Core.Bool.{true};
 ghost use Prim.Native.Nat.{_≤_};
-ghost use lib.Dec.{eqb};
 ghost use lib.ListN.{length};
 ghost use Rattle.std.specs.Vec.{made};
 ghost use Rattle.coding.specs.Bits.{areBits};
-ghost use Rattle.coding.specs.Distance.{distance};
+ghost use Rattle.coding.specs.Distance.{distance as apart};
+use coding::distance;
 use line::BENCH;
 use line::CascadeLine;
 use line::DifferentialLine;
@@ -18,36 +18,23 @@ use line::STANDARD;
 use line::ScramblingLine;
 use std::io;
 
+/// Sends over the standard's line, then over the bench's.
+pub fn run(rt: &LibcRuntime) -> io::Result<()> {
+    tell_standard(rt)?;
+    tell_bench(rt)
+}
+
 /// Flips the bits at some places.
 fn flip(bits: &mut [u8], places: &[usize])
     requires { ⌜ areBits (now bits) ≡ true ⌝ }
     ensures bits { λ _. ⌜ areBits (now (bits .exit)) ≡ true ⌝ }
-    ensures few { λ _. ⌜ distance (now (bits .exit)) (now (bits .entry)) ≤ length (now (places .entry)) ⌝ }
+    ensures few { λ _. ⌜ apart (now (bits .exit)) (now (bits .entry)) ≤ length (now (places .entry)) ⌝ }
 {
     for place in places {
         if *place < bits.len() {
             bits[*place] ^= 1;
         }
     }
-}
-
-/// In how many places two words differ.
-fn differences(a: &[u8], b: &[u8]) -> usize
-    requires { ⌜ length (now a) ≡ length (now b) ⌝ }
-    ensures { λ r. ⌜ r ≡ distance (now (a .entry)) (now (b .entry)) ⌝ }
-{
-    let mut count = 0;
-    for i in 0..a.len() {
-        count += unlike(a[i], b[i]);
-    }
-    count
-}
-
-/// 1 if two bits differ.
-fn unlike(x: u8, y: u8) -> usize
-    ensures { λ r. ⌜ r ≡ cond (eqb x y) 0 1 ⌝ }
-{
-    if x == y { 0 } else { 1 }
 }
 
 /// Encodes `word` into `bits`, flips those at `places`, decodes them, and counts the errors that are left: at most as many as the
@@ -64,12 +51,12 @@ fn errors_left<L: Line>(
     line.encode(word, 1, bits)?;
     flip(bits, places);
     line.decode(bits, &mut back)?;
-    Ok(differences(&back, word))
+    Ok(distance(&back, word))
 }
 
 /// Sends a word of ones, flips line bits, and tells how many errors are left.
 fn tell_damage<L: Line>(
-    rt: &impl Print,
+    rt: &LibcRuntime,
     line: &L,
     bits: &mut [u8],
     how: &str,
@@ -81,24 +68,25 @@ fn tell_damage<L: Line>(
         Ok(left) => println!(rt, "{left} errors left"),
         Err(refusal) => {
             let number = refusal.number();
-            println!(rt, "refused {number}")
+            println!(rt, "refused with {number}")
         }
     }
 }
 
 /// Tells how many line bits a word of `n` bits has.
-fn tell_length<L: Line>(rt: &impl Print, line: &L, n: usize) -> io::Result<()> {
+fn tell_length<L: Line>(rt: &LibcRuntime, line: &L, n: usize) -> io::Result<()> {
     match line.line_length(n) {
         Some(length) => println!(rt, "  a word of {n} bits takes {length} line bits"),
         None => println!(rt, "  a word of {n} bits is too long"),
     }
 }
 
-fn tell_standard(rt: &impl Print) -> io::Result<()> {
+/// The standard's line: lengths, then damage that it corrects, damage that it does not, and a refusal.
+fn tell_standard(rt: &LibcRuntime) -> io::Result<()> {
     let mut bits = [0u8; 977];
     println!(
         rt,
-        "the standard's line, scrambling over repetition over differential coding:"
+        "Sending over the standard's line: scrambling, repetition, differential coding."
     )?;
     tell_length(rt, &STANDARD, 244)?;
     tell_length(rt, &STANDARD, 1024)?;
@@ -120,9 +108,10 @@ fn tell_standard(rt: &impl Print) -> io::Result<()> {
     tell_damage(rt, &STANDARD, &mut bits[0..976], " with room for 976", &[])
 }
 
-fn tell_bench(rt: &impl Print) -> io::Result<()> {
+/// The bench's line: lengths, then damage that it corrects and damage that it does not.
+fn tell_bench(rt: &LibcRuntime) -> io::Result<()> {
     let mut bits = [0u8; 976];
-    println!(rt, "the bench's line, scrambling over repetition:")?;
+    println!(rt, "Sending over the bench's line: scrambling, repetition.")?;
     tell_length(rt, &BENCH, 244)?;
     tell_length(rt, &BENCH, 1025)?;
     tell_damage(rt, &BENCH, &mut bits, "", &[])?;
@@ -147,9 +136,4 @@ fn tell_bench(rt: &impl Print) -> io::Result<()> {
         " in two copies of the same bits",
         &[0, 1, 2, 3, 4, 5, 6, 244, 245, 246, 247, 248, 249, 250],
     )
-}
-
-fn main(rt: LibcRuntime) -> io::Result<()> {
-    tell_standard(&rt)?;
-    tell_bench(&rt)
 }
