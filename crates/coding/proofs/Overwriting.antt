@@ -54,8 +54,8 @@ written-part at n before part octets l e =
     record {
       ends = ap (λ (m : ℕ). at + m) l;
       text =
-        ap (λ (m : ℕ). putMid at m before part) width
-        ∙ putMid-paste at (length octets) before part octets (length octets) e refl refl
-        ∙ append-assoc (take at before) (take (length octets) octets) (drop (at + length octets) before)
-        ∙ ap (λ (z : List ℕ). take at before ++ (z ++ drop (at + length octets) before)) (take-length octets);
+          ap (λ (m : ℕ). putMid at m before part) width
+          ∙ putMid-paste at (length octets) before part octets (length octets) e refl refl
+          ∙ append-assoc (take at before) (take (length octets) octets) (drop (at + length octets) before)
+          ∙ ap (λ (z : List ℕ). take at before ++ (z ++ drop (at + length octets) before)) (take-length octets);
     }

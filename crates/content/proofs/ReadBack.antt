@@ -3,23 +3,27 @@ use mathlib.Core.Path.{_≡_, refl, sym, ap, ap₂, _∙_}
 use mathlib.Core.Bool.{Bool, true, false, cond, _&&_}
 use mathlib.Core.List.{List, [], _∷_, _++_, map}
 use mathlib.Core.Logic.{⊎-elim}
-use Prim.Native.Nat.{ℕ, zero, suc, _+_, _*_, _/_, _%_, _<_, _≤_}
+use Prim.Native.Nat.{ℕ, zero, suc, _+_, _*_, _/_, _%_, _^_, _<_, _≤_}
+use native.Mathlib.Nat.{mul-le-mul-right}
 use native.Mathlib.Omega.{arith}
-use lib.Dec.{eqb, leb, ltb}
+use lib.Dec.{eqb, leb, ltb, lit<}
 use lib.ListN.{length}
 use Rattle.std.specs.declared.option.Option.{Option}
 use Rattle.std.specs.declared.option.Option.the-variants.{Some, None}
 use Rattle.std.proofs.shelf.Lists.{length-append, append-nil, map-append}
-use Rattle.std.proofs.shelf.Tests.{and-from, and-left, and-right, le-leb, lt-leb, lt-ltb, cond-true, cond-false, cond-both, cases-eq, eq-eqb, ne-eqb}
+use Rattle.std.proofs.shelf.Tests.{and-parts, leb-true, and-from, and-left, and-right, le-leb, lt-leb, lt-ltb, cond-true, cond-false, cond-both, cases-eq, eq-eqb, ne-eqb}
 use Rattle.card.specs.Card.{CardValue, Lawful}
-use Rattle.card.specs.Fields.{missingOr}
+use Rattle.std.specs.shelf.Lists.{All}
+use Rattle.std.proofs.shelf.Elements.{all-append}
+use Rattle.card.specs.Fields.{missingOr, isCoordinate}
+use Rattle.card.specs.declared.fields.Coordinate.{Coordinate}
 use Rattle.content.specs.Kind.{Kind, takenApart, TakesApart}
-use Rattle.content.specs.Kinds.{latitudeKind, longitudeKind, telephoneKind, messageKind, telephoneLettering, messageLettering}
+use Rattle.content.specs.Kinds.{latitudeKind, longitudeKind, telephoneKind, messageKind, telephoneLettering, messageLettering, laidOut}
 use Rattle.content.specs.Sequence.{numbered, setOf, marker, fieldSets, evened, sequence, roundLength}
-use Rattle.content.specs.Laws.{risesFrom, wordsUnder, fieldFrom, SequenceLaws}
+use Rattle.content.specs.Laws.{risesFrom, wordsUnder, fieldFrom, HasRoom, SequenceLaws}
 use Rattle.content.specs.declared.entry.Content.{Content}
-use Rattle.content.proofs.Regrouped.{length-groups}
-use Rattle.content.proofs.TakingApart.{kinds}
+use Rattle.content.proofs.Regrouped.{length-groups, groupBits-bits}
+use Rattle.content.proofs.TakingApart.{kinds, groups-below}
 
 module _ (low high : ℕ) where
   under-append : (xs ys : List Content) → wordsUnder low high (xs ++ ys) ≡ wordsUnder low high xs ++ wordsUnder low high ys
@@ -217,6 +221,38 @@ evened-length xs l h = ⊎-elim odd even (cases-eq (length xs % 2) 1)
         let n : length (evened xs) ≡ length xs = ap length (cond-false _ (xs ++ (marker ∷ [])) xs (ne-eqb (length xs % 2) 1 e)) in
         (omega (arith, n, e), omega (arith, n, e), omega (arith, n, e))
 
+-- words that have room, under IDs up to 12
+room-numbered : (first : ℕ) (ws : List ℕ) → first + length ws ≤ 32 → All (λ w. w < 2 ^ 24) ws → All HasRoom (numbered first ws)
+unfolding numbered
+room-numbered first [] h a = tt
+room-numbered first (w ∷ ws) h a = (record { id = omega arith; word = a .0 }, room-numbered (suc first) ws (omega arith) (a .1))
+
+room-set : {V : Type 0} (k : Kind V) (first : ℕ) (o : Option V) → ((v : V) → k .lawful v ≡ true → (first + length (k .words v) ≤ 32) × All (λ w. w < 2 ^ 24) (k .words v))
+    → missingOr (k .lawful) o ≡ true → All HasRoom (setOf k first o)
+room-set k first None r l = tt
+room-set k first (Some v) r l = let p = r v l in room-numbered first (k .words v) (p .0) (p .1)
+
+room-coordinate : (most n : ℕ) (p : Coordinate) → (most * 10000 + 5999) * 2 ^ n + 1 < 2 ^ 24 → isCoordinate most p ≡ true → (p .degrees * 10000 + p .hundredths) * 2 ^ n + p .hemisphere < 2 ^ 24
+room-coordinate most n p small h =
+    let a = and-parts (leb (p .degrees) most) (leb (p .hundredths) 5999 && leb (p .hemisphere) 1) h in
+    let b = and-parts (leb (p .hundredths) 5999) (leb (p .hemisphere) 1) (a .1) in
+    let d : p .degrees ≤ most = leb-true (p .degrees) most (a .0) in
+    let s : p .hundredths ≤ 5999 = leb-true (p .hundredths) 5999 (b .0) in
+    let e : p .hemisphere ≤ 1 = leb-true (p .hemisphere) 1 (b .1) in
+    let m : p .degrees * 10000 + p .hundredths ≤ most * 10000 + 5999 = omega arith in
+    omega (arith, mul-le-mul-right (2 ^ n) m)
+
+room-sequence : (c : CardValue) → Lawful c → All HasRoom (sequence c)
+room-sequence c l =
+    let lat = room-set latitudeKind 1 (c .latitude) (λ p h. (omega arith, (room-coordinate 90 4 p (lit< tt) h, tt))) (l .latitude) in
+    let lon = room-set longitudeKind 2 (c .longitude) (λ p h. (omega arith, (room-coordinate 180 3 p (lit< tt) h, tt))) (l .longitude) in
+    let tel = room-set telephoneKind 3 (c .telephone) (λ t h. (omega (arith, telephone-count t), groups-below 24 3 _ (groupBits-bits 4 (laidOut telephoneLettering t)))) (l .telephone) in
+    let msg = room-set messageKind 6 (c .message) (λ t h. (omega (arith, message-count t), groups-below 24 7 _ (groupBits-bits 7 (laidOut messageLettering t)))) (l .message) in
+    let first : HasRoom marker = record { id = lit< tt; word = lit< tt } in
+    let all : All HasRoom (marker ∷ fieldSets c) = (first, all-append HasRoom (setOf latitudeKind 1 (c .latitude)) _ lat (all-append HasRoom (setOf longitudeKind 2 (c .longitude)) _ lon (all-append HasRoom (setOf telephoneKind 3 (c .telephone)) (setOf messageKind 6 (c .message)) tel msg))) in
+    cond-both (eqb (length (marker ∷ fieldSets c) % 2) 1) ((marker ∷ fieldSets c) ++ (marker ∷ [])) (marker ∷ fieldSets c) (All HasRoom)
+    (λ _. all-append HasRoom (marker ∷ fieldSets c) (marker ∷ []) all (first, tt)) (λ _. all)
+
 pub sequence-laws : (c : CardValue) → Lawful c → SequenceLaws c
 sequence-laws c l =
     let n = evened-length (marker ∷ fieldSets c) (omega arith) (omega (arith, sets-length c)) in
@@ -229,4 +265,5 @@ sequence-laws c l =
       longitude = ap (fieldFrom longitudeKind) (longitude-words c) ∙ from-words longitudeKind 2 1 (λ v. refl) (omega arith) (kinds .longitude) (c .longitude) (l .longitude);
       telephone = ap (fieldFrom telephoneKind) (telephone-words c) ∙ from-words telephoneKind 3 3 telephone-count (omega arith) (kinds .telephone) (c .telephone) (l .telephone);
       message = ap (fieldFrom messageKind) (message-words c) ∙ from-words messageKind 6 7 message-count (omega arith) (kinds .message) (c .message) (l .message);
+      room = room-sequence c l;
     }

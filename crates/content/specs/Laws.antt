@@ -2,9 +2,10 @@
 use mathlib.Core.Path.{_≡_}
 use mathlib.Core.Bool.{Bool, true, cond, _&&_}
 use mathlib.Core.List.{List, [], _∷_, map}
-use Prim.Native.Nat.{ℕ, _%_, _≤_}
+use Prim.Native.Nat.{ℕ, _%_, _^_, _<_, _≤_}
 use lib.Dec.{leb, ltb}
 use lib.ListN.{length}
+use Rattle.std.specs.shelf.Lists.{All}
 use Rattle.std.specs.declared.option.Option.{Option}
 use Rattle.std.specs.declared.option.Option.the-variants.{None}
 use Rattle.card.specs.Card.{CardValue}
@@ -28,8 +29,13 @@ abbrev pub fieldFrom : {V : Type 0} → Kind V → List ℕ → Option V
 fieldFrom k [] = None
 fieldFrom k (w ∷ ws) = takenApart k (w ∷ ws)
 
+-- an entry that has room where it is sent: an ID of 5 bits and a word of 24
+pub record HasRoom (x : Content) : Type 0 where
+  pub id : x .id < 2 ^ 5
+  pub word : x .word < 2 ^ 24
+
 -- The count is even, a round has 1 to 7 frames, the IDs of the fields rise above the 0 before them, and the fields read back
--- from the sequence are those of the card.
+-- from the sequence are those of the card. Every entry has room where it is sent.
 pub record SequenceLaws (c : CardValue) : Type 0 where
   pub even : length (sequence c) % 2 ≡ 0
   pub some : 1 ≤ roundLength c
@@ -39,3 +45,4 @@ pub record SequenceLaws (c : CardValue) : Type 0 where
   pub longitude : fieldFrom longitudeKind (wordsUnder 2 2 (sequence c)) ≡ c .longitude
   pub telephone : fieldFrom telephoneKind (wordsUnder 3 5 (sequence c)) ≡ c .telephone
   pub message : fieldFrom messageKind (wordsUnder 6 12 (sequence c)) ≡ c .message
+  pub room : All HasRoom (sequence c)

@@ -70,7 +70,7 @@ fn message_groups(octets: &[u8]) -> [u32; 24]
 {
     let mut groups = [0; 24];
     for (i, octet) in octets.iter().enumerate() {
-        groups[i] = u32::from(*octet);
+        groups[i] = octet_group(*octet);
     }
     groups
 }
@@ -119,6 +119,13 @@ fn group_symbol(group: u32) -> u8
     } else {
         b'0' + group as u8
     }
+}
+
+/// The group of a message's octet.
+fn octet_group(octet: u8) -> u32
+    ensures { λ r. ⌜ r ≡ messageLettering .code octet ⌝ }
+{
+    u32::from(octet)
 }
 
 /// The message that has these words, if there is one.

@@ -21,14 +21,30 @@ const NINE: [u8; 9] = [0x75, 0x00, 0x06, 0xB0, 0xFF, 0xFF, 0x01, 0xAC, 0x07];
 
 #[test]
 fn coordinates_both_ways() -> Result<(), Fail> {
-    let north = Coordinate { degrees: 89, hundredths: 5999, hemisphere: 0 };
-    let south = Coordinate { degrees: 12, hundredths: 4590, hemisphere: 1 };
+    let north = Coordinate {
+        degrees: 89,
+        hundredths: 5999,
+        hemisphere: 0,
+    };
+    let south = Coordinate {
+        degrees: 12,
+        hundredths: 4590,
+        hemisphere: 1,
+    };
     check_eq(latitude_word(north), 0xDABFF0)?;
     check_eq(latitude_word(south), 0x1E6AE1)?;
     check_eq(latitude_of(0xDABFF0), Some(north))?;
     check_eq(latitude_of(0x1E6AE1), Some(south))?;
-    let west = Coordinate { degrees: 179, hundredths: 5999, hemisphere: 1 };
-    let east = Coordinate { degrees: 23, hundredths: 3445, hemisphere: 0 };
+    let west = Coordinate {
+        degrees: 179,
+        hundredths: 5999,
+        hemisphere: 1,
+    };
+    let east = Coordinate {
+        degrees: 23,
+        hundredths: 3445,
+        hemisphere: 0,
+    };
     check_eq(longitude_word(west), 0xDB3CF9)?;
     check_eq(longitude_word(east), 0x1C7F28)?;
     check_eq(longitude_of(0xDB3CF9), Some(west))?;
@@ -38,10 +54,24 @@ fn coordinates_both_ways() -> Result<(), Fail> {
 #[test]
 fn words_that_no_coordinate_has() -> Result<(), Fail> {
     // a bit between number and hemisphere, 60 minutes, 91 degrees, more than 24 bits
-    for word in [0x1E6AE3, 0x1E6AE9, 6000 * 16, (91 * 10000) * 16, 0x1000_0000, u32::MAX] {
+    for word in [
+        0x1E6AE3,
+        0x1E6AE9,
+        6000 * 16,
+        (91 * 10000) * 16,
+        0x1000_0000,
+        u32::MAX,
+    ] {
         check_eq(latitude_of(word), None)?;
     }
-    for word in [0x1C7F2A, 0x1C7F2C, 6000 * 8, (181 * 10000) * 8, 0x1000_0000, u32::MAX] {
+    for word in [
+        0x1C7F2A,
+        0x1C7F2C,
+        6000 * 8,
+        (181 * 10000) * 8,
+        0x1000_0000,
+        u32::MAX,
+    ] {
         check_eq(longitude_of(word), None)?;
     }
     Ok(())
@@ -79,7 +109,12 @@ fn message_both_ways() -> Result<(), Fail> {
         None => return Err(Fail::new("no message")),
     }
     // zeros alone, a character after the padding, a control character, more than 24 bits
-    for words in [[0; 7], [0x911664, 0xC9E000, 0, 0, 0, 0, 0x41], [0x111664, 0xC9E000, 0, 0, 0, 0, 0], [0x1911664, 0xC9E000, 0, 0, 0, 0, 0]] {
+    for words in [
+        [0; 7],
+        [0x911664, 0xC9E000, 0, 0, 0, 0, 0x41],
+        [0x111664, 0xC9E000, 0, 0, 0, 0, 0],
+        [0x1911664, 0xC9E000, 0, 0, 0, 0, 0],
+    ] {
         check(message_of(&words).is_none())?;
     }
     Ok(())

@@ -4,3 +4,5 @@
 mod cards;
 #[cfg(test)]
 mod contents;
+#[cfg(test)]
+mod frames;
