@@ -1,6 +1,7 @@
 //! Content words and sequences.
 
 use card::Card;
+use card::CardRefusalDebug;
 use card::Coordinate;
 use card::CoordinateDebug;
 use card::CoordinatePartialEq;

@@ -1,6 +1,7 @@
 //! Frames: built, damaged and judged.
 
 use card::Card;
+use card::CardRefusalDebug;
 use frame::Frame;
 use frame::FrameRefusal;
 use frame::judge;
