@@ -18,12 +18,6 @@ use line::STANDARD;
 use line::ScramblingLine;
 use std::io;
 
-/// Sends over the standard's line, then over the bench's.
-pub fn run(rt: &LibcRuntime) -> io::Result<()> {
-    tell_standard(rt)?;
-    tell_bench(rt)
-}
-
 /// Flips the bits at some places.
 fn flip(bits: &mut [u8], places: &[usize])
     requires { ⌜ areBits (now bits) ≡ true ⌝ }
@@ -136,4 +130,10 @@ fn tell_bench(rt: &LibcRuntime) -> io::Result<()> {
         " in two copies of the same bits",
         &[0, 1, 2, 3, 4, 5, 6, 244, 245, 246, 247, 248, 249, 250],
     )
+}
+
+/// Sends over the standard's line, then over the bench's.
+pub fn run(rt: &LibcRuntime) -> io::Result<()> {
+    tell_standard(rt)?;
+    tell_bench(rt)
 }
