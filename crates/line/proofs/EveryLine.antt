@@ -15,14 +15,14 @@ use Rattle.line.specs.Line.{Model, Word, LineRules}
 use Rattle.line.specs.Calls.{fits}
 use Rattle.line.specs.Laws.{Undamaged, SomeLineBit, NoLength, OtherLength, DecodeLengths}
 use Rattle.line.proofs.Answers.{fits-from}
-use Rattle.line.proofs.Distances.{distance-self, same-from-distance}
+use Rattle.coding.proofs.Distances.{distance-self, distance-zero}
 
 pub undamaged : Undamaged
 undamaged m r n w last t word hb =
     let y = m .encode w last in
     let far = r .near n w last y t word hb (r .encodes n w last t word hb) in
     let none : m .growth (distance y y) ≡ 0 = ap (m .growth) (distance-self y) ∙ r .none in
-    same-from-distance (m .decode y) w (omega arith)
+    distance-zero (m .decode y) w (omega arith)
 
 -- n times the same bit
 constant-bits : (n b : ℕ) → b < 2 → areBits (replicate n b) ≡ true
