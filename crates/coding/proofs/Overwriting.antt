@@ -5,7 +5,7 @@ use Prim.Native.Nat.{ℕ, _+_, _-_, _≤_}
 use native.Mathlib.Omega.{arith}
 use lib.ListN.{length, take, drop}
 use native.Mathlib.Nat.{zero-add, add-zero}
-use Rattle.std.proofs.shelf.Lists.{take-append-drop, take-at, drop-at, drop-drop, length-append, length-drop, length-take-le}
+use Rattle.std.proofs.shelf.Lists.{take-append-drop, take-at, drop-at, drop-drop, length-append, length-take-le}
 use lib.Seq.{take-length}
 use borrow.Rule.Slice.PartMut.{putMid}
 use Rattle.std.proofs.shelf.Parts.{putMid-paste}
@@ -36,12 +36,6 @@ then-written at middle end x y o p q fits v w =
       text = w .text ∙ ap₂ (λ (a b : List ℕ). a ++ (y ++ b)) front back ∙ append-assoc (take at o) x (y ++ drop (at + length (x ++ y)) o)
           ∙ ap (λ (z : List ℕ). take at o ++ z) (sym (append-assoc x y (drop (at + length (x ++ y)) o)));
     }
-
--- a buffer keeps its length
-pub written-length : (at end : ℕ) (x o p : List ℕ) → at + length x ≤ length o → Written at x o p end → length p ≡ length o
-written-length at end x o p fits w =
-    ap length (w .text) ∙ length-append (take at o) (x ++ drop (at + length x) o)
-    ∙ omega (arith, length-take-le at o (omega arith), length-append x (drop (at + length x) o), length-drop (at + length x) o)
 
 -- nothing is written
 pub written-none : (at : ℕ) (o : List ℕ) → Written at [] o o at
