@@ -1,5 +1,7 @@
 //! The (111, 69) code: encoded, and decoded to the codeword within six places.
 
+#![tactic(auto)]
+
 mod decoder;
 mod encoder;
 mod word;

@@ -1,5 +1,7 @@
 //! The card that a modulator announces: its identifier and up to four fields.
 
+#![tactic(auto)]
+
 mod access;
 mod buffer;
 mod card;

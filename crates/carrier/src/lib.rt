@@ -1,5 +1,7 @@
 //! The reader of blocks, and the guarantee of two rounds.
 
+#![tactic(auto)]
+
 mod air;
 mod passing;
 mod reader;

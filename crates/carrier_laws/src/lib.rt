@@ -1,5 +1,7 @@
 //! What holds of the way from a sender to a reader. Each function's contract is the law; it does nothing else.
 
+#![tactic(auto)]
+
 ghost use Rattle.carrier_laws.specs.Runs.{RunsExist};
 ghost use Rattle.carrier_laws.specs.Blocks.{ClosedOnlyByRounds};
 ghost use Rattle.carrier_laws.specs.Bounds.{WithinBound};

@@ -1,5 +1,7 @@
 //! Chips: a line bit is spread over the 4,096 chips of a block, and heard from them.
 
+#![tactic(auto)]
+
 mod despreading;
 mod pattern;
 mod refusal;

@@ -1,6 +1,8 @@
 //! Times the decoder: nanoseconds a half, for halves without errors, with 1, 3 and 6 errors, and of noise. Without an
 //! argument it does the work once and prints nothing.
 
+#![tactic(auto)]
+
 use bch::{decode, encode};
 use std::time::Instant;
 use std::{env, io};

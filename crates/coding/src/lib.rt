@@ -1,5 +1,7 @@
 //! Words of bits, polynomials over the field of two elements, and CRC-8.
 
+#![tactic(auto)]
+
 mod bits;
 mod crc;
 mod laws;

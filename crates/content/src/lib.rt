@@ -1,5 +1,7 @@
 //! What a card is sent as: content words under Content IDs, in a sequence.
 
+#![tactic(auto)]
+
 mod coordinates;
 mod entry;
 mod groups;

@@ -1,5 +1,7 @@
 //! GF(128), and the algebra of the (111, 69) code: its roots, its minimum distance, and how errors are located.
 
+#![tactic(auto)]
+
 mod arithmetic;
 mod laws;
 

@@ -1,5 +1,7 @@
 //! Halves and frames: what a frame carries, its 244 bits, and judging 244 received bits.
 
+#![tactic(auto)]
+
 mod bits;
 mod building;
 mod carried;

@@ -1,5 +1,7 @@
 //! Lines: how a word of bits goes onto the line as line bits, and comes off it.
 
+#![tactic(auto)]
+
 ghost use Rattle.std.specs.Prelude.{◌≡◌};
 ghost use Rattle.line.specs.Line.{Model, LineRules};
 ghost use Rattle.line.specs.Calls.{length_of, encode_answer, encode_output, decode_answer, decode_output};

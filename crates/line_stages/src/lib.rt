@@ -1,5 +1,7 @@
 //! The stages that lines are made of: scrambling, repetition and differential coding.
 
+#![tactic(auto)]
+
 mod bits;
 mod differential;
 mod repetition;

@@ -1,5 +1,7 @@
 //! Tests of the lines at their bounds.
 
+#![tactic(auto)]
+
 #[cfg(test)]
 mod tests {
     use line::{Line, LineRefusal};

@@ -1,5 +1,7 @@
 //! The cascade of two lines, and the lines that carry frames.
 
+#![tactic(auto)]
+
 mod cascade;
 mod lines;
 

@@ -1,5 +1,7 @@
 //! Tests of the reader, beside the proofs.
 
+#![tactic(auto)]
+
 #[cfg(test)]
 mod example;
 #[cfg(test)]

@@ -1,5 +1,7 @@
 //! Rounds: what each take, judged as a frame, does to the reader.
 
+#![tactic(auto)]
+
 mod fields;
 mod growing;
 mod halves;

@@ -1,5 +1,7 @@
 //! What holds of rounds. Each function's contract is the law; it does nothing else.
 
+#![tactic(auto)]
+
 ghost use Rattle.round_laws.specs.Closings.{Closings};
 ghost use Rattle.round_laws.specs.Exactly.{ExactAnswers};
 ghost use Rattle.round_laws.specs.Room.{FramesHaveRoom};

@@ -1,5 +1,7 @@
 //! Tests in bulk, beside the proofs: what the crates do on examples.
 
+#![tactic(auto)]
+
 #[cfg(test)]
 mod cards;
 #[cfg(test)]

@@ -1,5 +1,7 @@
 //! The sender: a card's frames over a line, as blocks of chips.
 
+#![tactic(auto)]
+
 pub mod laws;
 mod refusal;
 mod sender;

@@ -1,5 +1,7 @@
 //! Linear equations over GF(128), solved by elimination.
 
+#![tactic(auto)]
+
 ghost use Rattle.std.specs.Prelude.{◌≡◌, ℕ, ◌-◌, ◌%◌, ◌<◌, ◌≤◌, min, true, false, List, [], length, take, Some, None, slice_index, slice_index_or, slice_range};
 ghost use Rattle.solver.specs.Linear.{side_from, Solve};
 ghost use Rattle.solver.specs.Elimination.{SolveFrom, Combined, Eliminated};
@@ -76,7 +78,7 @@ fn eliminate(rows: &mut [[u8; 7]], pivot: &[u8; 7], col: usize)
     }
 }
 
-/// typeof.a.row + b·other, in the place of row.
+/// a·row + b·other, in the place of row.
 fn combine(row: &mut [u8; 7], a: u8, b: u8, other: &[u8; 7])
     ensures { Combined a row.old b other.now row.new }
 {

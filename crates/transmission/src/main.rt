@@ -1,6 +1,8 @@
 //! Runs one task from beginning to end, and says at each step what it does: a card is sent over both lines, and the blocks of a
 //! take are told; two rounds of it are sent through air that flips chips, and a reader reads the card.
 
+#![tactic(auto)]
+
 mod damage;
 mod drawing;
 mod sending;

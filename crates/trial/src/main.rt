@@ -2,6 +2,8 @@
 //! as the sequence of content words that it is sent as; a word is sent over two lines, with line bits flipped on the way, and the
 //! errors left are counted.
 
+#![tactic(auto)]
+
 mod drawing;
 mod lines;
 mod sequence;
