@@ -4,8 +4,8 @@ use Rattle.coding.specs.Crc.{divisor}
 use Rattle.coding.proofs.Division.{tops_cancel, reduced_low, reduced_high}
 use Rattle.coding.proofs.crc.after_bit.Goals as goal
 
-pub overflow-cast-result-else-moved-lt256 : goal.overflow-cast-result-else-moved-lt256
-overflow-cast-result-else-moved-lt256 c =
+pub overflow_cast-result-else-moved-lt256 : goal.overflow_cast-result-else-moved-lt256
+overflow_cast-result-else-moved-lt256 c =
     let moved : ℕ = bit_xor (c.from.result * 2) (c.from-2.result * 256) in
     let high : moved < 512 = xor_lt 9 (c.from.result * 2) (c.from-2.result * 256) (omega arith) (omega arith) in
     let small : bit_xor moved 469 < 256 = tops_cancel 8 moved 469 c.if-moved-lt256.false high (lit≤ tt) (lit< tt) in

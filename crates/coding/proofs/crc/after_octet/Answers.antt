@@ -8,8 +8,8 @@ use Rattle.coding.proofs.crc.after_octet.Goals as goal
 
 pub loop-i-preserved : goal.loop-i-preserved
 loop-i-preserved c =
-    remainder_bit 8 divisor c.loop-i.register c.args.octet c.loop-i.i c.after-bit-register.result (omega arith)
-    c.after-bit-register.ensures
+    remainder_bit 8 divisor c.loop-i.register c.args.octet c.loop-i.i c.after_bit-register.result (omega arith)
+    c.after_bit-register.ensures
     ∙ c.loop-i.invariant
 
 pub returns : goal.returns

@@ -12,7 +12,7 @@ loop-octet-preserved c =
     let os = c.args.octets.now in
     let i = c.loop-octet.octet-index in
     let r = c.loop-octet.register in
-    ap (λ (z : ℕ). remainder 8 divisor z (octet_bits (drop (i + 1) os))) c.after-octet-register.ensures
+    ap (λ (z : ℕ). remainder 8 divisor z (octet_bits (drop (i + 1) os))) c.after_octet-register.ensures
     ∙ sym (remainder_append 8 divisor r (bits 8 (get_or os i 0)) (octet_bits (drop (i + 1) os)))
     ∙ ap (remainder 8 divisor r) (sym (octet_bits_more os i (omega arith)))
     ∙ c.loop-octet.invariant

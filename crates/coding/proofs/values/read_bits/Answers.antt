@@ -1,5 +1,4 @@
-use Rattle.std.proofs.Common.{◌≡◌, ℕ, ◌+◌, ◌*◌, ◌%◌, ◌^◌, get_or, drop, sym, refl, ap, ◌∙◌, arith}
-use Rattle.coding.specs.Bits.{number_after, number}
+use Rattle.std.proofs.Common.{◌≡◌, ℕ, ◌+◌, ◌*◌, ◌%◌, ◌^◌, get_or, drop, sym, ap, ◌∙◌, arith}
 use Rattle.coding.proofs.Numbers.{number_more, number_all, number_low}
 use Rattle.coding.proofs.values.read_bits.Goals as goal
 
