@@ -6,11 +6,11 @@ use Rattle.chips.proofs.Lengths.{accepted, refused, only_length}
 use Rattle.chips.proofs.Hearing.{kept_bit, heard_bits_lem}
 use Rattle.chips.proofs.despreading.despread.Goals as goal
 
-pub returns-in-err-check-length : goal.returns-in-err-check-length
-returns-in-err-check-length c =
+pub returns-in_err-check_length : goal.returns-in_err-check_length
+returns-in_err-check_length c =
     let x = c.args.heard.now in
-    let p = err_from_is_err_and c.from-residual.result c.from-residual.ensures.1 in
-    let other : eqb (length x) 512 ≡ false = refused (length x) _ c.in-err-check-length.ensures in
+    let p = err_from_is_err_and c.from_residual.result c.from_residual.ensures.1 in
+    let other : eqb (length x) 512 ≡ false = refused (length x) _ c.in_err-check_length.ensures in
     record {
       answer = p.1 ∙ ap Err (only_length p.0) ∙ sym (cond-false (eqb (length x) 512) _ _ other);
       kept = kept_bit;
@@ -21,8 +21,8 @@ pub returns : goal.returns
 unfolding despread
 returns c =
     let x = c.args.heard.now in
-    let fits : eqb (length x) 512 ≡ true = accepted (length x) c.in-ok-check-length.ensures in
-    let heard : c.majority.result ≡ despread x = c.majority.ensures ∙ ap (λ (n : ℕ). cond (ltb 2048 n) 1 0) c.unlike-chips.ensures in
+    let fits : eqb (length x) 512 ≡ true = accepted (length x) c.in_ok-check_length.ensures in
+    let heard : c.majority.result ≡ despread x = c.majority.ensures ∙ ap (λ (n : ℕ). cond (ltb 2048 n) 1 0) c.unlike_chips.ensures in
     record {
       answer = ap Ok heard ∙ sym (cond-true (eqb (length x) 512) _ _ fits);
       kept = kept_bit;

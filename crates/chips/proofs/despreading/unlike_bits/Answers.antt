@@ -7,7 +7,7 @@ use Rattle.chips.proofs.despreading.unlike_bits.Goals as goal
 
 pub returns : goal.returns
 returns c = record {
-  is = ap₂ (λ (x y : ℕ). ones (bit_xor x y)) c.from-be-bytes.ensures c.from-be-bytes-2.ensures
+  is = ap₂ (λ (x y : ℕ). ones (bit_xor x y)) c.from_be_bytes.ensures c.from_be_bytes-2.ensures
       ∙ unlike_words c.args.a c.args.b (search rules) (search rules) (λ i. search rules) (λ i. search rules);
-  most = ones-le 64 _ (xor_lt 64 c.from-be-bytes.result c.from-be-bytes-2.result c.from-be-bytes.type-inv c.from-be-bytes-2.type-inv);
+  most = ones-le 64 _ (xor_lt 64 c.from_be_bytes.result c.from_be_bytes-2.result c.from_be_bytes.type_inv c.from_be_bytes-2.type_inv);
 }

@@ -14,13 +14,13 @@ loop-i-init c =
 
 pub loop-i-preserved : goal.loop-i-preserved
 loop-i-preserved c =
-    let more = unlike_more c.args.heard.now (block 0) c.as-chunks.result.0.now c.as-chunks-2.result.0.now
-    c.loop-i.i c.unlike-bits-count.result c.requires (block_is 0).long
-    c.as-chunks.ensures.front
-    (c.as-chunks-2.ensures.front ∙ ap (λ (p : List ℕ). first_chunks 8 (length p / 8) p) c.pattern-octets.ensures)
-    (omega arith) c.unlike-bits-count.ensures.is
+    let more = unlike_more c.args.heard.now (block 0) c.as_chunks.result.0.now c.as_chunks-2.result.0.now
+    c.loop-i.i c.unlike_bits-count.result c.requires (block_is 0).long
+    c.as_chunks.ensures.front
+    (c.as_chunks-2.ensures.front ∙ ap (λ (p : List ℕ). first_chunks 8 (length p / 8) p) c.pattern_octets.ensures)
+    (omega arith) c.unlike_bits-count.ensures.is
     in
-    (omega (arith, c.loop-i.invariant.0), omega (arith, c.loop-i.invariant.1, c.unlike-bits-count.ensures.most))
+    (omega (arith, c.loop-i.invariant.0), omega (arith, c.loop-i.invariant.1, c.unlike_bits-count.ensures.most))
 
 pub returns : goal.returns
 returns c =
