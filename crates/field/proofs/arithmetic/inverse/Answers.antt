@@ -8,7 +8,7 @@ returns-then-x-eq0 c = record { is = inverse_zero c.args.a c.if-x-eq0.true; smal
 pub returns : goal.returns
 returns c =
     record {
-      is = inverse_is c.args.a c.logarithm.result c.power-of-c.result c.logarithm.ensures.is (omega arith)
-          c.logarithm.ensures.small c.power-of-c.ensures;
-      small = exp_below c.power-of-c.result _ c.power-of-c.ensures;
+      is = inverse_is c.args.a c.logarithm.result c.power_of_c.result c.logarithm.ensures.is (omega arith)
+          c.logarithm.ensures.small c.power_of_c.ensures;
+      small = exp_below c.power_of_c.result _ c.power_of_c.ensures;
     }

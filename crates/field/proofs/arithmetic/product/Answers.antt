@@ -11,7 +11,7 @@ returns-then-y-eq0 c = record { is = product_zero_r c.args.a c.args.b c.if-y-eq0
 pub returns : goal.returns
 returns c =
     record {
-      is = product_is c.args.a c.args.b c.logarithm.result c.logarithm-2.result c.power-of-c.result
-          c.logarithm.ensures.is c.logarithm-2.ensures.is c.power-of-c.ensures;
-      small = exp_below c.power-of-c.result _ c.power-of-c.ensures;
+      is = product_is c.args.a c.args.b c.logarithm.result c.logarithm-2.result c.power_of_c.result
+          c.logarithm.ensures.is c.logarithm-2.ensures.is c.power_of_c.ensures;
+      small = exp_below c.power_of_c.result _ c.power_of_c.ensures;
     }
