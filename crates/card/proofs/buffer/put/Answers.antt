@@ -4,5 +4,5 @@ use Rattle.card.proofs.buffer.put.Goals as goal
 
 pub returns : goal.returns
 returns c =
-    written_part c.args.at (length c.args.octets.now) c.args.out.now c.copy-from-slice.new.self c.args.octets.now
-    refl c.copy-from-slice.ensures.after
+    written_part c.args.at (length c.args.octets.now) c.args.out.now c.copy_from_slice.new.self c.args.octets.now
+    refl c.copy_from_slice.ensures.after

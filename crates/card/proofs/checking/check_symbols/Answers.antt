@@ -13,21 +13,21 @@ answered_at x place = cond (is_symbol x) (Ok (symbol_code x)) (Err (TelephoneSym
 abbrev answered : ℕ → ℕ → Result ℕ CardRefusal
 answered x i = answered_at x (i + 1)
 
-pub returns-in-err-symbol-code : goal.returns-in-err-symbol-code
-returns-in-err-symbol-code c =
+pub returns-in_err-symbol_code : goal.returns-in_err-symbol_code
+returns-in_err-symbol_code c =
     let xs = c.args.symbols.now in
     let i = c.loop-i.i in
-    let p = err_from_is_err_and c.from-residual.result c.from-residual.ensures.1 in
-    let e : c.symbol-code.result ≡ answered (get_or xs i 0) i = c.symbol-code.ensures ∙ ap₂ answered_at c.from.ensures c.place-at.ensures in
-    let t = test_failed (is_symbol (get_or xs i 0)) (symbol_code (get_or xs i 0)) (TelephoneSymbol (i + 1)) _ c.symbol-code.result e c.in-err-symbol-code.was in
+    let p = err_from_is_err_and c.from_residual.result c.from_residual.ensures.1 in
+    let e : c.symbol_code.result ≡ answered (get_or xs i 0) i = c.symbol_code.ensures ∙ ap₂ answered_at c.from.ensures c.place_at.ensures in
+    let t = test_failed (is_symbol (get_or xs i 0)) (symbol_code (get_or xs i 0)) (TelephoneSymbol (i + 1)) _ c.symbol_code.result e c.in_err-symbol_code.was in
     p.1 ∙ ap Err (p.2 ∙ sym t.1) ∙ refused_at TelephoneSymbol is_symbol xs i c.loop-i.invariant (omega arith) t.0
 
 pub loop-i-preserved : goal.loop-i-preserved
 loop-i-preserved c =
     let xs = c.args.symbols.now in
     let i = c.loop-i.i in
-    let e : c.symbol-code.result ≡ answered (get_or xs i 0) i = c.symbol-code.ensures ∙ ap₂ answered_at c.from.ensures c.place-at.ensures in
-    let t = test_held (is_symbol (get_or xs i 0)) (symbol_code (get_or xs i 0)) _ (TelephoneSymbol (i + 1)) c.symbol-code.result e c.in-ok-symbol-code.was in
+    let e : c.symbol_code.result ≡ answered (get_or xs i 0) i = c.symbol_code.ensures ∙ ap₂ answered_at c.from.ensures c.place_at.ensures in
+    let t = test_held (is_symbol (get_or xs i 0)) (symbol_code (get_or xs i 0)) _ (TelephoneSymbol (i + 1)) c.symbol_code.result e c.in_ok-symbol_code.was in
     passed_more is_symbol xs i (omega arith) t c.loop-i.invariant
 
 pub returns : goal.returns

@@ -14,9 +14,9 @@ loop-octet-preserved c =
     let o = c.args.out.now in
     let os = c.args.octets.now in
     let i = c.loop-octet.octet-index in
-    let end = c.put-colon-octet-end.result in
-    let w = then_written at c.loop-octet.end end (colon_octets (take i os)) (codes ":" ++ hex_octet (get_or os i 0)) o c.loop-octet.out c.put-colon-octet-end.new.out (omega arith) c.loop-octet.invariant.0 c.put-colon-octet-end.ensures in
-    (same_octets at end _ _ o c.put-colon-octet-end.new.out (colon_more os i (omega arith)) w, omega (arith, c.loop-octet.invariant.1, c.put-colon-octet-end.ensures.ends))
+    let end = c.put_colon_octet-end.result in
+    let w = then_written at c.loop-octet.end end (colon_octets (take i os)) (codes ":" ++ hex_octet (get_or os i 0)) o c.loop-octet.out c.put_colon_octet-end.new.out (omega arith) c.loop-octet.invariant.0 c.put_colon_octet-end.ensures in
+    (same_octets at end _ _ o c.put_colon_octet-end.new.out (colon_more os i (omega arith)) w, omega (arith, c.loop-octet.invariant.1, c.put_colon_octet-end.ensures.ends))
 
 pub returns : goal.returns
 returns c = record {

@@ -15,12 +15,12 @@ pub returns : goal.returns
 returns c =
     let at = c.args.at in
     let o = c.args.out.now in
-    let h = c.hex-octet.result in
+    let h = c.hex_octet.result in
     let os = c.octets.result in
     let two = then_written at c.put-end.result c.put-end-2.result (codes "id ") h o c.put-end.new.out c.put-end-2.new.out (omega arith) c.put-end.ensures c.put-end-2.ensures in
-    let three = then_written at c.put-end-2.result c.put-colon-octets-end.result (codes "id " ++ h) (colon_octets os) o c.put-end-2.new.out c.put-colon-octets-end.new.out (omega arith) two c.put-colon-octets-end.ensures.text in
-    let four = then_written at c.put-colon-octets-end.result c.put.result ((codes "id " ++ h) ++ colon_octets os) (codes "\n") o c.put-colon-octets-end.new.out c.put.new.out (omega arith) three c.put.ensures in
+    let three = then_written at c.put-end-2.result c.put_colon_octets-end.result (codes "id " ++ h) (colon_octets os) o c.put-end-2.new.out c.put_colon_octets-end.new.out (omega arith) two c.put_colon_octets-end.ensures.text in
+    let four = then_written at c.put_colon_octets-end.result c.put.result ((codes "id " ++ h) ++ colon_octets os) (codes "\n") o c.put_colon_octets-end.new.out c.put.new.out (omega arith) three c.put.ensures in
     record {
       bound = search rules;
-      line = same_octets at c.put.result _ _ o c.put.new.out (parts h c.args.identifier.octets os _ (c.hex-octet.ensures ∙ ap hex_octet c.check_octet.ensures) c.octets.ensures) four;
+      line = same_octets at c.put.result _ _ o c.put.new.out (parts h c.args.identifier.octets os _ (c.hex_octet.ensures ∙ ap hex_octet c.check_octet.ensures) c.octets.ensures) four;
     }

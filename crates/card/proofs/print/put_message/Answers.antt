@@ -14,6 +14,6 @@ returns-in-Some c =
     in
     let short : length t ≤ 24 = omega (arith, c.in-Some.m.within, ap length c.octets.ensures, length-take c.in-Some.m.len c.in-Some.m.octets) in
     record {
-      bound = omega (arith, c.put-text.ensures.ends, length-append t (codes "\n"), short);
-      line = same_octets c.args.at c.put-text.result _ _ c.args.out.now c.put-text.new.out is c.put-text.ensures;
+      bound = omega (arith, c.put_text.ensures.ends, length-append t (codes "\n"), short);
+      line = same_octets c.args.at c.put_text.result _ _ c.args.out.now c.put_text.new.out is c.put_text.ensures;
     }

@@ -14,6 +14,6 @@ returns-in-Some c =
     in
     let short : length t ≤ 18 = omega (arith, c.in-Some.t.within, ap length c.symbols.ensures, length-take c.in-Some.t.len c.in-Some.t.symbols) in
     record {
-      bound = omega (arith, c.put-text.ensures.ends, length-append t (codes "\n"), short);
-      line = same_octets c.args.at c.put-text.result _ _ c.args.out.now c.put-text.new.out is c.put-text.ensures;
+      bound = omega (arith, c.put_text.ensures.ends, length-append t (codes "\n"), short);
+      line = same_octets c.args.at c.put_text.result _ _ c.args.out.now c.put_text.new.out is c.put_text.ensures;
     }

@@ -27,13 +27,13 @@ returns c =
     let d = longitude_line v.longitude in
     let e = telephone_line v.telephone in
     let f = message_line v.message in
-    let two = then_written 0 c.put-identifier-end.result c.put-latitude-end.result a b o c.put-identifier-end.new.out c.put-latitude-end.new.out (omega arith) c.put-identifier-end.ensures.line c.put-latitude-end.ensures.line in
-    let three = then_written 0 c.put-latitude-end.result c.put-longitude-end.result (a ++ b) d o c.put-latitude-end.new.out c.put-longitude-end.new.out (omega arith) two c.put-longitude-end.ensures.line in
-    let four = then_written 0 c.put-longitude-end.result c.put-telephone-end.result ((a ++ b) ++ d) e o c.put-longitude-end.new.out c.put-telephone-end.new.out (omega arith) three c.put-telephone-end.ensures.line in
-    let five = then_written 0 c.put-telephone-end.result c.put-message.result (((a ++ b) ++ d) ++ e) f o c.put-telephone-end.new.out c.put-message.new.out (omega arith) four c.put-message.ensures.line in
-    let w = same_octets 0 c.put-message.result _ (card_text v) o c.put-message.new.out (regroup a b d e f) five in
+    let two = then_written 0 c.put_identifier-end.result c.put_latitude-end.result a b o c.put_identifier-end.new.out c.put_latitude-end.new.out (omega arith) c.put_identifier-end.ensures.line c.put_latitude-end.ensures.line in
+    let three = then_written 0 c.put_latitude-end.result c.put_longitude-end.result (a ++ b) d o c.put_latitude-end.new.out c.put_longitude-end.new.out (omega arith) two c.put_longitude-end.ensures.line in
+    let four = then_written 0 c.put_longitude-end.result c.put_telephone-end.result ((a ++ b) ++ d) e o c.put_longitude-end.new.out c.put_telephone-end.new.out (omega arith) three c.put_telephone-end.ensures.line in
+    let five = then_written 0 c.put_telephone-end.result c.put_message.result (((a ++ b) ++ d) ++ e) f o c.put_telephone-end.new.out c.put_message.new.out (omega arith) four c.put_message.ensures.line in
+    let w = same_octets 0 c.put_message.result _ (card_text v) o c.put_message.new.out (regroup a b d e f) five in
     record {
-      answer = answered v o c.put-message.new.out c.put-message.result (omega arith) w;
+      answer = answered v o c.put_message.new.out c.put_message.result (omega arith) w;
       bound = omega arith;
-      text = left v o c.put-message.new.out c.put-message.result (omega arith) w;
+      text = left v o c.put_message.new.out c.put_message.result (omega arith) w;
     }

@@ -5,17 +5,17 @@ use Rattle.card.proofs.Accepted.{accepted_message, not_longer}
 use Rattle.coding.proofs.Overwriting.{front_of}
 use Rattle.card.proofs.fields.Message.new.Goals as goal
 
-pub invariant-of-result : goal.invariant-of-result
-invariant-of-result c =
+pub invariant_of-result : goal.invariant_of-result
+invariant_of-result c =
     let t = c.args.octets.now in
-    let e : message_answer t ≡ Ok tt = sym c.check-message.ensures ∙ c.in-ok-check-message.was in
+    let e : message_answer t ≡ Ok tt = sym c.check_message.ensures ∙ c.in_ok-check_message.was in
     let f : take c.put-len.result c.put-len.new.out ≡ t = front_of t _ c.put-len.new.out c.put-len.result c.put-len.ensures.ends c.put-len.ensures.text in
     let l = accepted_message t tt e in
-    (omega (arith, not_longer 24 t (each is_printing t) l), (ap is_message f ∙ l, tt))
+    record { within = omega (arith, not_longer 24 t (each is_printing t) l); lawful = ap is_message f ∙ l }
 
 pub returns : goal.returns
 returns c =
     let t = c.args.octets.now in
-    let e : message_answer t ≡ Ok tt = sym c.check-message.ensures ∙ c.in-ok-check-message.was in
+    let e : message_answer t ≡ Ok tt = sym c.check_message.ensures ∙ c.in_ok-check_message.was in
     let f : take c.put-len.result c.put-len.new.out ≡ t = front_of t _ c.put-len.new.out c.put-len.result c.put-len.ensures.ends c.put-len.ensures.text in
     ap Ok f ∙ sym (ap (on_ok (λ _. t)) e)

@@ -38,20 +38,20 @@ octets_in (Some d) e = refl
 tested : (s : List ℕ) (l : length s ≡ 9) (t : Bool) → t ≡ eqb (get_or s 0 0) (crc8 (octet_bits (take (length s - 1) (drop 1 s)))) → t ≡ eqb (get_or s 0 0) (crc8 (octet_bits (drop 1 s)))
 tested s l t e = e ∙ ap (λ (d : List ℕ). eqb (get_or s 0 0) (crc8 (octet_bits d))) (rest_of s l)
 
-pub returns-then-not-is-check-octet : goal.returns-then-not-is-check-octet
-returns-then-not-is-check-octet c =
+pub returns-then-not-is_check_octet : goal.returns-then-not-is_check_octet
+returns-then-not-is_check_octet c =
     let s = c.args.octets.now in
     let l : length s ≡ 9 = omega arith in
-    wrong_check s l (eqb-false _ _ (sym (tested s l c.is-check-octet.result c.is-check-octet.ensures) ∙ c.if-not-is-check-octet.true))
+    wrong_check s l (eqb-false _ _ (sym (tested s l c.is_check_octet.result c.is_check_octet.ensures) ∙ c.if-not-is_check_octet.true))
 
 pub returns : goal.returns
 returns c =
     let s = c.args.octets.now in
     let l : length s ≡ 9 = omega arith in
     let r = rest_of s l in
-    let d : c.copy-from-slice.new.self ≡ drop 1 s = c.copy-from-slice.ensures.after ∙ r in
-    ap (on_ok (λ d. d.octets)) c.ok-or.ensures.value
+    let d : c.copy_from_slice.new.self ≡ drop 1 s = c.copy_from_slice.ensures.after ∙ r in
+    ap (on_ok (λ d. d.octets)) c.ok_or.ensures.value
     ∙ octets_in c.new.result FirstOctet
     ∙ ap (λ (o : Option (List ℕ)). ok_or o FirstOctet) c.new.ensures
     ∙ ap (λ (z : List ℕ). ok_or (cond (keeps_first_octet z) (Some z) None) FirstOctet) d
-    ∙ right_check s l (eqb-true _ _ (sym (tested s l c.is-check-octet.result c.is-check-octet.ensures) ∙ c.if-not-is-check-octet.false))
+    ∙ right_check s l (eqb-true _ _ (sym (tested s l c.is_check_octet.result c.is_check_octet.ensures) ∙ c.if-not-is_check_octet.false))
