@@ -6,7 +6,7 @@ use Rattle.line.specs.Stages.{mask, sequence}
 use Rattle.line.proofs.Sums.{bit_at, fill_step, plus_bit}
 use Rattle.line.proofs.ScramblingRules.{window, window_start, window_step, window_next, mask_low, mask_high, sequence_bit}
 use Rattle.line_stages.proofs.scrambling.scramble.Goals as goal
-use Rattle.line_stages.proofs.scrambling.scramble.Goals.{then-is-scrambled, else-is-scrambled}
+use Rattle.line_stages.proofs.scrambling.scramble.Goals.{then-is_scrambled, else-is_scrambled}
 
 pub feedback-next-requires : goal.feedback-next-requires
 feedback-next-requires c =
@@ -26,18 +26,18 @@ loop-i-preserved c =
     let f : ℕ → ℕ = λ j. plus (get_or w j 0) (mask j) in
     let room : i < length c.loop-i.out = omega arith in
     let bit : get_or w i 0 < 2 = bit_at w c.requires.0 i in
-    elim c.if-is-scrambled.branch [
-      | then-is-scrambled y ↦
-          let high : 22 ≤ i = leb-true 22 i (sym y.if-is-scrambled.ensures) in
+    elim c.if-is_scrambled.branch [
+      | then-is_scrambled y ↦
+          let high : 22 ≤ i = leb-true 22 i (sym y.if-is_scrambled.ensures) in
           let next = y.feedback-next.ensures ∙ window_next (i - 22) c.loop-i.register c.loop-i.invariant.0 in (
             y.register-is ∙ window_step (i - 22) (i + 1 - 22) _ c.loop-i.register c.loop-i.invariant.0 (omega arith) next,
-            fill_step f c.loop-i.out c.if-is-scrambled.out i _ room
+            fill_step f c.loop-i.out c.if-is_scrambled.out i _ room
                 (y.sum.ensures ∙ ap (plus (get_or w i 0)) (next ∙ sym (mask_high i high))) y.out-is c.loop-i.invariant.1,
           )
-      | else-is-scrambled y ↦
-          let low : i < 22 = leb-false 22 i (sym y.if-is-scrambled.ensures) in (
+      | else-is_scrambled y ↦
+          let low : i < 22 = leb-false 22 i (sym y.if-is_scrambled.ensures) in (
             y.register-is ∙ c.loop-i.invariant.0 ∙ ap window {x = i - 22} {y = i + 1 - 22} (omega arith),
-            fill_step f c.loop-i.out c.if-is-scrambled.out i (get_or w i 0) room (omega (arith, mask_low i low))
+            fill_step f c.loop-i.out c.if-is_scrambled.out i (get_or w i 0) room (omega (arith, mask_low i low))
                 y.out-is c.loop-i.invariant.1,
           )
     ]

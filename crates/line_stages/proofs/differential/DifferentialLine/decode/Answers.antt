@@ -10,7 +10,7 @@ use Rattle.line_stages.proofs.differential.DifferentialLine.decode.Goals as goal
 pub sum-requires : goal.sum-requires
 sum-requires c =
     let x = c.args.bits.now in
-    let hx : are_bits x ≡ true = sym c.if-not-are-bits.ensures in
+    let hx : are_bits x ≡ true = sym c.if-not-are_bits.ensures in
     (bit_at x hx c.loop-i.i, bit_at x hx (c.loop-i.i + 1))
 
 pub loop-i-preserved : goal.loop-i-preserved
@@ -23,7 +23,7 @@ pub returns : goal.returns
 returns c =
     let x = c.args.bits.now in
     let o = c.args.out.now in
-    let hx : are_bits x ≡ true = sym c.if-not-are-bits.ensures in
+    let hx : are_bits x ≡ true = sym c.if-not-are_bits.ensures in
     let takes : leb (length o + 1) 4096 ≡ true = le-leb _ _ (omega arith) in
     let size : length o + 1 ≡ length x = omega arith in
     record {

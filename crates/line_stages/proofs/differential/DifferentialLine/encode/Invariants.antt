@@ -4,5 +4,5 @@ use Rattle.line_stages.proofs.differential.DifferentialLine.encode.Given as goal
 
 abbrev pub invariant-loop-i : goal.invariant-loop-i
 invariant-loop-i l =
-    (l.line-bit ≡ running l.word l.last l.i)
+    (l.line_bit ≡ running l.word l.last l.i)
     × ((k : ℕ) → k < l.i + 1 → get_or l.out k 0 ≡ running l.word l.last k)

@@ -12,7 +12,7 @@ majority-requires c =
     let x = c.args.bits.now in
     let n = length c.args.out.now in
     let i = c.loop-i.i in
-    let hx : are_bits x ≡ true = sym c.if-not-are-bits.ensures in
+    let hx : are_bits x ≡ true = sym c.if-not-are_bits.ensures in
     (bit_at x hx i, (bit_at x hx (n + i), (bit_at x hx (2 * n + i), bit_at x hx (3 * n + i))))
 
 pub loop-i-preserved : goal.loop-i-preserved
@@ -25,7 +25,7 @@ pub returns : goal.returns
 returns c =
     let x = c.args.bits.now in
     let o = c.args.out.now in
-    let hx : are_bits x ≡ true = sym c.if-not-are-bits.ensures in
+    let hx : are_bits x ≡ true = sym c.if-not-are_bits.ensures in
     let takes : leb (4 * length o) 4096 ≡ true = le-leb _ _ (omega arith) in
     let size : 4 * length o ≡ length x = omega arith in
     let q : length x / 4 ≡ length o = omega arith in
