@@ -7,11 +7,11 @@ use Rattle.bch.specs.Search.{leftover}
 use Rattle.bch.proofs.Remainders.{codeword_from, codeword_leftover}
 use Rattle.bch.proofs.decoder.accepted.Goals as goal
 
-pub returns-then-not-is-codeword : goal.returns-then-not-is-codeword
-returns-then-not-is-codeword c =
+pub returns-then-not-is_codeword : goal.returns-then-not-is_codeword
+returns-then-not-is_codeword c =
     record {
       some = λ a e. let z : ◌≡◌ {A = ℕ} 0 1 = cc in absurd (omega arith);
-      none = λ _ n. eqb-false (leftover c.args.word.now) 0 (sym c.if-not-is-codeword.ensures)
+      none = λ _ n. eqb-false (leftover c.args.word.now) 0 (sym c.if-not-is_codeword.ensures)
           (codeword_leftover c.args.word.now n.code);
     }
 
@@ -23,7 +23,7 @@ returns c =
     let q : d ≡ distance r w = c.distance-places.ensures in
     let near : Near r w =
     record {
-      code = codeword_from w c.told-word c.requires (eqb-true (leftover w) 0 (sym c.if-not-is-codeword.ensures));
+      code = codeword_from w c.told-word c.requires (eqb-true (leftover w) 0 (sym c.if-not-is_codeword.ensures));
       near = omega (arith, q, c.if-places-gt-RADIUS.false);
     }
     in

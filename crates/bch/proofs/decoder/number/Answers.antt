@@ -5,13 +5,13 @@ use Rattle.coding.proofs.Numbers.{number_more, number_all}
 use Rattle.bch.proofs.Codewords.{sum_fits, sum_more}
 use Rattle.bch.proofs.decoder.number.Goals as goal
 
-pub overflow-mul-sum : goal.overflow-mul-sum
-overflow-mul-sum c =
+pub overflow_mul-sum : goal.overflow_mul-sum
+overflow_mul-sum c =
     let h : c.loop-bit.sum < 2 ^ 62 = sum_fits c.loop-bit.sum c.loop-bit.bit-index c.loop-bit.invariant.1 (omega arith) in
     record { fits = omega arith }
 
-pub overflow-add-sum : goal.overflow-add-sum
-overflow-add-sum c =
+pub overflow_add-sum : goal.overflow_add-sum
+overflow_add-sum c =
     let h : c.loop-bit.sum < 2 ^ 62 = sum_fits c.loop-bit.sum c.loop-bit.bit-index c.loop-bit.invariant.1 (omega arith) in
     let b : get_or c.args.word.now c.loop-bit.bit-index 0 < 2 = bit_at c.args.word.now c.requires.bits
     c.loop-bit.bit-index in

@@ -13,7 +13,7 @@ returns-in-Some c =
 
 pub loop-v-preserved : goal.loop-v-preserved
 loop-v-preserved c = λ w n.
-    let other : c.loop-v.v ≡ distance c.args.received.now w → ⊥ = c.attempt.ensures.none c.in-default.is w n in
+    let other : c.loop-v.v ≡ distance c.args.received.now w → ⊥ = c.attempt.ensures.none c.in_default.is w n in
     omega (arith, c.loop-v.invariant w n)
 
 pub returns : goal.returns

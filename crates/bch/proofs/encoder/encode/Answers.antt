@@ -12,14 +12,14 @@ use Rattle.bch.proofs.encoder.encode.Goals as goal
 pub returns : goal.returns
 returns c =
     let d = c.args.«data».now in
-    let bit : are_bits d ≡ true = sym c.if-not-are-bits.ensures in
-    let e : c.with-parity.result ≡ encode d = encode_is d c.with-parity.result c.parity.result c.with-parity.ensures
+    let bit : are_bits d ≡ true = sym c.if-not-are_bits.ensures in
+    let e : c.with_parity.result ≡ encode d = encode_is d c.with_parity.result c.parity.result c.with_parity.ensures
     c.parity.ensures.is in
-    let code : Codeword c.with-parity.result = subst Codeword (sym e) (encoded_code d c.told-data bit) in
+    let code : Codeword c.with_parity.result = subst Codeword (sym e) (encoded_code d c.told-data bit) in
     record {
       is = ap Ok e ∙ sym (cond-true (are_bits d) (Ok (encode d)) (Err NotBits) bit);
       only = λ w q. let s : w ≡ encode d = cc in subst (OnlyRemainder 42 generator 0 d) (sym (parity_read d w c.told-data bit s))
           (parity_remains d bit);
-      roots = λ w q i h. roots w (let s : c.with-parity.result ≡ w = cc in subst Codeword s code) i h;
-      far = λ w v q cv near. far w v (let s : c.with-parity.result ≡ w = cc in subst Codeword s code) cv near;
+      roots = λ w q i h. roots w (let s : c.with_parity.result ≡ w = cc in subst Codeword s code) i h;
+      far = λ w v q cv near. far w v (let s : c.with_parity.result ≡ w = cc in subst Codeword s code) cv near;
     }

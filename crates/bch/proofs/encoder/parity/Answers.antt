@@ -8,15 +8,15 @@ pub loop-bit-init : goal.loop-bit-init
 unfolding parity
 loop-bit-init c = (refl, lit< tt)
 
-pub after-bit-register-requires : goal.after-bit-register-requires
-after-bit-register-requires c = (c.loop-bit.invariant.1, bit_at c.args.«data».now c.requires c.loop-bit.bit-index)
+pub after_bit-register-requires : goal.after_bit-register-requires
+after_bit-register-requires c = (c.loop-bit.invariant.1, bit_at c.args.«data».now c.requires c.loop-bit.bit-index)
 
 pub loop-bit-preserved : goal.loop-bit-preserved
 loop-bit-preserved c = (
-  remainder_at 42 generator c.loop-bit.register c.args.«data».now c.loop-bit.bit-index c.after-bit-register.result
-      (omega arith) c.after-bit-register.ensures.is
+  remainder_at 42 generator c.loop-bit.register c.args.«data».now c.loop-bit.bit-index c.after_bit-register.result
+      (omega arith) c.after_bit-register.ensures.is
       ∙ c.loop-bit.invariant.0,
-  c.after-bit-register.ensures.small,
+  c.after_bit-register.ensures.small,
 )
 
 pub returns : goal.returns

@@ -5,8 +5,8 @@ use Rattle.bch.proofs.encoder.with_parity.Goals as goal
 
 pub loop-i-init : goal.loop-i-init
 loop-i-init c =
-    parity_start c.copy-from-slice.new.self c.args.«data».now _ c.args.parity c.copy-from-slice.ensures.len
-    c.copy-from-slice.ensures.after refl
+    parity_start c.copy_from_slice.new.self c.args.«data».now _ c.args.parity c.copy_from_slice.ensures.len
+    c.copy_from_slice.ensures.after refl
 
 pub loop-i-preserved : goal.loop-i-preserved
 loop-i-preserved c =
