@@ -5,8 +5,8 @@ use Rattle.coding.proofs.Words.{bits_drop}
 use Rattle.coding.proofs.Groups.{next_group, groups_place, length_groups, number_fits}
 use Rattle.content.proofs.groups.read_groups.Goals as goal
 
-pub slice-bounds-read-bits-end : goal.slice-bounds-read-bits-end
-slice-bounds-read-bits-end c = omega (arith, c.loop-i.invariant.0, c.requires.0, next_group c.loop-i.i (length c.args.out.now) c.args.width (omega arith))
+pub slice_bounds-read_bits-end : goal.slice_bounds-read_bits-end
+slice_bounds-read_bits-end c = omega (arith, c.loop-i.invariant.0, c.requires.0, next_group c.loop-i.i (length c.args.out.now) c.args.width (omega arith))
 
 pub loop-i-preserved : goal.loop-i-preserved
 loop-i-preserved c =
@@ -19,13 +19,13 @@ loop-i-preserved c =
     let width : at + w - at ≡ w = omega arith in
     let part : take (at + w - at) (drop at bs) ≡ take w (drop (i * w) bs) = ap₂ (λ (m k : ℕ). take m (drop k bs)) width c.loop-i.invariant.0 in
     let low : number (take w (drop (i * w) bs)) % 2 ^ 32 ≡ number (take w (drop (i * w) bs)) = number_fits w (drop (i * w) bs) c.requires.1.0 (bits_drop (i * w) bs c.requires.1.1) in
-    let read : c.read-bits.result ≡ get_or (groups w n bs) i 0 =
-    c.read-bits.ensures ∙ ap (λ (b : List ℕ). number b % 2 ^ 32) part ∙ low ∙ sym (groups_place w n bs i (omega arith))
+    let read : c.read_bits.result ≡ get_or (groups w n bs) i 0 =
+    c.read_bits.ensures ∙ ap (λ (b : List ℕ). number b % 2 ^ 32) part ∙ low ∙ sym (groups_place w n bs i (omega arith))
     in (
       omega (arith, c.loop-i.invariant.0, suc-mul i w, ap (λ (m : ℕ). m * w) (add-one i)),
       below_more _ i
-          (λ k h. let ne : k ≢ i = omega arith in get_or-set_other c.loop-i.out i k c.read-bits.result 0 ne ∙ c.loop-i.invariant.1 k h)
-          (get_or-set_same c.loop-i.out i c.read-bits.result 0 lt ∙ read),
+          (λ k h. let ne : k ≢ i = omega arith in get_or-set_other c.loop-i.out i k c.read_bits.result 0 ne ∙ c.loop-i.invariant.1 k h)
+          (get_or-set_same c.loop-i.out i c.read_bits.result 0 lt ∙ read),
     )
 
 pub returns : goal.returns

@@ -7,11 +7,11 @@ use Rattle.content.proofs.letters.message_octets.Goals as goal
 pub loop-i-init : goal.loop-i-init
 loop-i-init c = read_none message_lettering.character 0 c.args.groups.now c.args.out.now (c.told-out ∙ sym c.told-groups)
 
-pub group-octet-requires : goal.group-octet-requires
-group-octet-requires c = All-get_or (λ g. g < 128) c.args.groups.now c.loop-i.i 0 (omega arith) c.requires
+pub group_octet-requires : goal.group_octet-requires
+group_octet-requires c = All-get_or (λ g. g < 128) c.args.groups.now c.loop-i.i 0 (omega arith) c.requires
 
 pub loop-i-preserved : goal.loop-i-preserved
-loop-i-preserved c = read_more message_lettering.character 0 c.args.groups.now c.loop-i.i c.group-octet.result c.loop-i.out (omega arith) c.if-group-eq0.false c.group-octet.ensures c.loop-i.invariant
+loop-i-preserved c = read_more message_lettering.character 0 c.args.groups.now c.loop-i.i c.group_octet.result c.loop-i.out (omega arith) c.if-group-eq0.false c.group_octet.ensures c.loop-i.invariant
 
 pub returns-then-group-eq0 : goal.returns-then-group-eq0
 returns-then-group-eq0 c = record {

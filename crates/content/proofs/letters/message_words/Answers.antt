@@ -3,5 +3,5 @@ use Rattle.coding.specs.Bits.{are_bits}
 use Rattle.coding.proofs.Groups.{group_bits_bits}
 use Rattle.content.proofs.letters.message_words.Goals as goal
 
-pub read-groups-requires : goal.read-groups-requires
-read-groups-requires c = (omega arith, (lit≤ tt, ap are_bits c.write-groups.ensures ∙ group_bits_bits 7 c.message-groups-groups.result))
+pub read_groups-requires : goal.read_groups-requires
+read_groups-requires c = (omega arith, (lit≤ tt, ap are_bits c.write_groups.ensures ∙ group_bits_bits 7 c.message_groups-groups.result))

@@ -12,8 +12,8 @@ loop-i-preserved c =
     let p = and_parts (length_within 18 t) (each is_symbol t && extension_inside t) c.requires in
     let s = and_parts (each is_symbol t) (extension_inside t) p.1 in
     let symbol : is_symbol (get_or t i 0) ≡ true = each_at is_symbol t i (omega arith) s.0 in
-    laid_more symbol_code 18 15 t i c.symbol-group.result c.loop-i.groups (omega arith) (not_longer 18 t (each is_symbol t && extension_inside t) c.requires) c.loop-i.invariant
-    (c.symbol-group.ensures ∙ cond-true (is_symbol (get_or t i 0)) (symbol_code (get_or t i 0)) 15 symbol)
+    laid_more symbol_code 18 15 t i c.symbol_group.result c.loop-i.groups (omega arith) (not_longer 18 t (each is_symbol t && extension_inside t) c.requires) c.loop-i.invariant
+    (c.symbol_group.ensures ∙ cond-true (is_symbol (get_or t i 0)) (symbol_code (get_or t i 0)) 15 symbol)
 
 pub returns : goal.returns
 returns c = laid_all symbol_code 18 15 c.args.symbols.now c.loop-i.i c.loop-i.groups (omega arith) c.loop-i.invariant

@@ -7,11 +7,11 @@ use Rattle.content.proofs.letters.telephone_symbols.Goals as goal
 pub loop-i-init : goal.loop-i-init
 loop-i-init c = read_none telephone_lettering.character 15 c.args.groups.now c.args.out.now (c.told-out ∙ sym c.told-groups)
 
-pub group-symbol-requires : goal.group-symbol-requires
-group-symbol-requires c = All-get_or (λ g. g < 16) c.args.groups.now c.loop-i.i 0 (omega arith) c.requires
+pub group_symbol-requires : goal.group_symbol-requires
+group_symbol-requires c = All-get_or (λ g. g < 16) c.args.groups.now c.loop-i.i 0 (omega arith) c.requires
 
 pub loop-i-preserved : goal.loop-i-preserved
-loop-i-preserved c = read_more telephone_lettering.character 15 c.args.groups.now c.loop-i.i c.group-symbol.result c.loop-i.out (omega arith) c.if-group-eq15.false c.group-symbol.ensures c.loop-i.invariant
+loop-i-preserved c = read_more telephone_lettering.character 15 c.args.groups.now c.loop-i.i c.group_symbol.result c.loop-i.out (omega arith) c.if-group-eq15.false c.group_symbol.ensures c.loop-i.invariant
 
 pub returns-then-group-eq15 : goal.returns-then-group-eq15
 returns-then-group-eq15 c = record {

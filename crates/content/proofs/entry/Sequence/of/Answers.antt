@@ -21,10 +21,10 @@ returns c =
     let lon : set_of longitude_kind 2 c.longitude.result ≡ set_of longitude_kind 2 v.longitude = ap (set_of longitude_kind 2) c.longitude.ensures in
     let tel : set_of telephone_kind 3 (option_map symbols_of c.telephone.result) ≡ set_of telephone_kind 3 v.telephone = ap (λ o. set_of telephone_kind 3 (option_map symbols_of o)) c.telephone.ensures in
     let msg : set_of message_kind 6 (option_map octets_of c.message.result) ≡ set_of message_kind 6 v.message = ap (λ o. set_of message_kind 6 (option_map octets_of o)) c.message.ensures in
-    let one = c.push-latitude.ensures.entries ∙ ap (λ (s : List Content). (marker ∷ []) ++ s) lat in
-    let two = c.push-longitude.ensures.entries ∙ ap₂ ◌++◌ one lon in
-    let three = c.push-telephone.ensures.entries ∙ ap₂ ◌++◌ two tel in
-    let four = c.push-message.ensures.entries ∙ ap₂ ◌++◌ three msg in
+    let one = c.push_latitude.ensures.entries ∙ ap (λ (s : List Content). (marker ∷ []) ++ s) lat in
+    let two = c.push_longitude.ensures.entries ∙ ap₂ ◌++◌ one lon in
+    let three = c.push_telephone.ensures.entries ∙ ap₂ ◌++◌ two tel in
+    let four = c.push_message.ensures.entries ∙ ap₂ ◌++◌ three msg in
     let all : entries_of c.even.new.self ≡ sequence v =
     c.even.ensures ∙ ap evened (four ∙ regroup (marker ∷ []) (set_of latitude_kind 1 v.latitude) (set_of longitude_kind 2 v.longitude) (set_of telephone_kind 3 v.telephone) (set_of message_kind 6 v.message))
     in
