@@ -11,5 +11,5 @@ returns c =
     let w = c.args.width in
     let out = c.args.out.now in
     let part : length (take (at + w - at) (drop at out)) ≡ w = length-take-le (at + w - at) (drop at out) (omega (arith, length-drop at out)) ∙ omega arith in
-    let x : c.write-bits.new.out ≡ bits w c.args.value = c.write-bits.ensures ∙ ap (λ (n : ℕ). bits n c.args.value) part in
-    record { end = refl; text = written_part at w out c.write-bits.new.out (bits w c.args.value) (sym (length_bits w c.args.value)) x }
+    let x : c.write_bits.new.out ≡ bits w c.args.value = c.write_bits.ensures ∙ ap (λ (n : ℕ). bits n c.args.value) part in
+    record { end = refl; text = written_part at w out c.write_bits.new.out (bits w c.args.value) (sym (length_bits w c.args.value)) x }

@@ -16,13 +16,13 @@ loop-octet-preserved c =
     let o = c.args.out.now in
     let os = c.args.octets.now in
     let i = c.loop-octet.octet-index in
-    let end = c.put-bits-end.result in
+    let end = c.put_bits-end.result in
     let x = bits 8 (get_or os i 0) in
-    let p : Written c.loop-octet.end x c.loop-octet.out c.put-bits-end.new.out end =
-    same_octets c.loop-octet.end end _ x c.loop-octet.out c.put-bits-end.new.out (ap (bits 8) c.from.ensures) c.put-bits-end.ensures.text
+    let p : Written c.loop-octet.end x c.loop-octet.out c.put_bits-end.new.out end =
+    same_octets c.loop-octet.end end _ x c.loop-octet.out c.put_bits-end.new.out (ap (bits 8) c.from.ensures) c.put_bits-end.ensures.text
     in
-    let w = then_written at c.loop-octet.end end (octet_bits (take i os)) x o c.loop-octet.out c.put-bits-end.new.out (omega arith) c.loop-octet.invariant.0 p in
-    (same_octets at end _ _ o c.put-bits-end.new.out (octet_bits_take os i (omega arith)) w, omega (arith, c.loop-octet.invariant.1, c.put-bits-end.ensures.end))
+    let w = then_written at c.loop-octet.end end (octet_bits (take i os)) x o c.loop-octet.out c.put_bits-end.new.out (omega arith) c.loop-octet.invariant.0 p in
+    (same_octets at end _ _ o c.put_bits-end.new.out (octet_bits_take os i (omega arith)) w, omega (arith, c.loop-octet.invariant.1, c.put_bits-end.ensures.end))
 
 pub returns : goal.returns
 returns c = record {

@@ -4,5 +4,5 @@ use Rattle.frame.proofs.bits.put_word.Goals as goal
 
 pub returns : goal.returns
 returns c =
-    written_part c.args.at (length c.args.word.now) c.args.out.now c.copy-from-slice.new.self c.args.word.now
-    refl c.copy-from-slice.ensures.after
+    written_part c.args.at (length c.args.word.now) c.args.out.now c.copy_from_slice.new.self c.args.word.now
+    refl c.copy_from_slice.ensures.after

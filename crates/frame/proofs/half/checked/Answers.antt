@@ -14,10 +14,10 @@ returns c =
     let said = c.args.said.now in
     let zeros = replicate {A = ℕ} 69 0 in
     let crc : c.from.result ≡ crc8 said =
-    c.from.ensures ∙ c.unwrap-or-crc.ensures ∙ ap (λ (o : Option ℕ). unwrap_or o 0) (c.crc8-of-bits.ensures.is ∙ cond-true (are_bits said) (Some (crc8 said)) None c.requires)
+    c.from.ensures ∙ c.unwrap_or-crc.ensures ∙ ap (λ (o : Option ℕ). unwrap_or o 0) (c.crc8_of_bits.ensures.is ∙ cond-true (are_bits said) (Some (crc8 said)) None c.requires)
     in
-    let two = then_written 0 c.put-word-end.result c.put-bits.result said (bits 8 c.from.result) zeros c.put-word-end.new.out c.put-bits.new.out (omega arith) c.put-word-end.ensures c.put-bits.ensures.text in
-    let all = same_octets 0 c.put-bits.result _ (checked said) zeros c.put-bits.new.out (ap (λ (n : ℕ). said ++ bits 8 n) crc) two in
+    let two = then_written 0 c.put_word-end.result c.put_bits.result said (bits 8 c.from.result) zeros c.put_word-end.new.out c.put_bits.new.out (omega arith) c.put_word-end.ensures c.put_bits.ensures.text in
+    let all = same_octets 0 c.put_bits.result _ (checked said) zeros c.put_bits.new.out (ap (λ (n : ℕ). said ++ bits 8 n) crc) two in
     let long : length (checked said) ≡ 69 = length-append said (bits 8 (crc8 said)) ∙ omega (arith, c.told-said, length_bits 8 (crc8 said)) in
-    let e : c.put-bits.new.out ≡ checked said = whole c.put-bits.result (checked said) zeros c.put-bits.new.out (sym long) all in
+    let e : c.put_bits.new.out ≡ checked said = whole c.put_bits.result (checked said) zeros c.put_bits.new.out (sym long) all in
     record { is = e; bits = ap are_bits e ∙ bits_append said (bits 8 (crc8 said)) c.requires (bits_bits 8 (crc8 said)) }

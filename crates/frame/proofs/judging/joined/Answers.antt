@@ -8,5 +8,5 @@ pub returns : goal.returns
 returns c =
     let high = c.args.high.now in
     let low = c.args.low.now in
-    whole c.put-word.result (high ++ low) (replicate {A = ℕ} 8 0) c.put-word.new.out (sym (length-append high low ∙ omega (arith, c.told-high, c.told-low)))
-    (then_written 0 c.put-word-end.result c.put-word.result high low (replicate {A = ℕ} 8 0) c.put-word-end.new.out c.put-word.new.out (omega arith) c.put-word-end.ensures c.put-word.ensures)
+    whole c.put_word.result (high ++ low) (replicate {A = ℕ} 8 0) c.put_word.new.out (sym (length-append high low ∙ omega (arith, c.told-high, c.told-low)))
+    (then_written 0 c.put_word-end.result c.put_word.result high low (replicate {A = ℕ} 8 0) c.put_word-end.new.out c.put_word.new.out (omega arith) c.put_word-end.ensures c.put_word.ensures)
