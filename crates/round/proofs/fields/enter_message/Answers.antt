@@ -7,16 +7,16 @@ use Rattle.round.specs.declared.refusal.TakeRefusal.TheVariants.{NoValue}
 use Rattle.round.proofs.Entering.{was_none, was_some, message_none, message_some}
 use Rattle.round.proofs.fields.enter_message.Goals as goal
 
-pub returns-in-err-message : goal.returns-in-err-message
-returns-in-err-message c =
-    let p = err_from_is_err_and c.from-residual.result c.from-residual.ensures.1 in
-    let q = was_none c.message-of.result c.ok-or.result (NoValue c.args.half 12) c.ok-or.ensures.value c.ok-or.ensures.ok-part c.in-err-message.field-0.0 c.in-err-message.was in
+pub returns-in_err-message : goal.returns-in_err-message
+returns-in_err-message c =
+    let p = err_from_is_err_and c.from_residual.result c.from_residual.ensures.1 in
+    let q = was_none c.message_of.result c.ok_or.result (NoValue c.args.half 12) c.ok_or.ensures.value c.ok_or.ensures.ok_part c.in_err-message.field-0.0 c.in_err-message.was in
     ap (on_ok state_of) p.1 ∙ ap Err (p.2 ∙ q.1)
-    ∙ message_none c.args.half (value_of c.args.card) c.args.words.now (sym c.message-of.ensures.value ∙ ap (option_map octets_of) q.0)
+    ∙ message_none c.args.half (value_of c.args.card) c.args.words.now (sym c.message_of.ensures.value ∙ ap (option_map octets_of) q.0)
 
 pub returns : goal.returns
 returns c =
-    let t = c.in-ok-message.message in
-    let q = was_some c.message-of.result c.ok-or.result (NoValue c.args.half 12) c.ok-or.ensures.value c.ok-or.ensures.ok-part t c.in-ok-message.was in
-    message_some c.args.half (value_of c.args.card) c.args.words.now (octets_of t) c.octets.result.now (value_of c.enter-message.new.self)
-    (sym c.message-of.ensures.value ∙ ap (option_map octets_of) q) c.octets.ensures c.enter-message.ensures.after
+    let t = c.in_ok-message.message in
+    let q = was_some c.message_of.result c.ok_or.result (NoValue c.args.half 12) c.ok_or.ensures.value c.ok_or.ensures.ok_part t c.in_ok-message.was in
+    message_some c.args.half (value_of c.args.card) c.args.words.now (octets_of t) c.octets.result.now (value_of c.enter_message.new.self)
+    (sym c.message_of.ensures.value ∙ ap (option_map octets_of) q) c.octets.ensures c.enter_message.ensures.after

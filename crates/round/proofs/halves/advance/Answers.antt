@@ -18,22 +18,22 @@ pub returns-in-Waiting-default : goal.returns-in-Waiting-default
 unfolding advanced
 returns-in-Waiting-default c = at c.args.half c.args.round.now _ c.args.content _ c.in-Waiting-default.is-0 refl
 
-pub returns-in-err-check-marker : goal.returns-in-err-check-marker
-returns-in-err-check-marker c =
+pub returns-in_err-check_marker-in-Open-eq0 : goal.returns-in_err-check_marker-in-Open-eq0
+returns-in_err-check_marker-in-Open-eq0 c =
     let x = c.args.content in
     let v = value_of c.in-Open-eq0.card in
-    let p = err_from_is_err_and c.from-residual.result c.from-residual.ensures.1 in
+    let p = err_from_is_err_and c.from_residual.result c.from_residual.ensures.1 in
     ap (on_ok state_of) p.1 ∙ ap Err p.2
     ∙ at c.args.half c.args.round.now _ x _ c.in-Open-eq0.is-0
-    (marked_err c.args.half x.word (closing v) c.check-marker.result c.check-marker.ensures c.in-err-check-marker.field-0.0 c.in-err-check-marker.was
+    (marked_err c.args.half x.word (closing v) c.check_marker.result c.check_marker.ensures c.in_err-check_marker-in-Open-eq0.field-0.0 c.in_err-check_marker-in-Open-eq0.was
     ∙ opened_zero c.args.half v c.in-Open-eq0.last-0 x c.in-Open-eq0.is-1)
 
-pub returns-in-ok-check-marker : goal.returns-in-ok-check-marker
-returns-in-ok-check-marker c =
+pub returns-in_ok-check_marker-in-Open-eq0 : goal.returns-in_ok-check_marker-in-Open-eq0
+returns-in_ok-check_marker-in-Open-eq0 c =
     let x = c.args.content in
     let v = value_of c.in-Open-eq0.card in
     at c.args.half c.args.round.now _ x _ c.in-Open-eq0.is-0
-    (marked_ok c.args.half x.word (closing v) c.check-marker.result c.check-marker.ensures c.in-ok-check-marker.field-0 c.in-ok-check-marker.was
+    (marked_ok c.args.half x.word (closing v) c.check_marker.result c.check_marker.ensures c.in_ok-check_marker-in-Open-eq0.field-0 c.in_ok-check_marker-in-Open-eq0.was
     ∙ opened_zero c.args.half v c.in-Open-eq0.last-0 x c.in-Open-eq0.is-1)
 
 pub returns-in-Open-default : goal.returns-in-Open-default
@@ -41,7 +41,7 @@ returns-in-Open-default c =
     let x = c.args.content in
     let n : x.id ≡ 0 → ⊥ = λ e. grind arith in
     at c.args.half c.args.round.now _ x _ c.in-Open-default.is-0
-    (c.begin-set.ensures ∙ opened_other c.args.half (value_of c.in-Open-default.card) c.in-Open-default.last x n)
+    (c.begin_set.ensures ∙ opened_other c.args.half (value_of c.in-Open-default.card) c.in-Open-default.last x n)
 
 pub returns-in-Unfinished-eq0 : goal.returns-in-Unfinished-eq0
 returns-in-Unfinished-eq0 c =
@@ -55,7 +55,7 @@ returns-in-Unfinished-default c =
     let k = c.in-Unfinished-default in
     let n : x.id ≡ 0 → ⊥ = λ e. grind arith in
     at c.args.half c.args.round.now _ x _ k.is-0
-    (c.continue-set.ensures ∙ unfinished_other c.args.half (value_of k.card) k.set.last x (words_of k.set) n)
+    (c.continue_set.ensures ∙ unfinished_other c.args.half (value_of k.card) k.set.last x (words_of k.set) n)
 
 pub returns-in-Closing-default : goal.returns-in-Closing-default
 unfolding advanced

@@ -14,7 +14,7 @@ returns-in-1 c =
     let half = c.args.half in
     let v = value_of c.args.card in
     let x = c.args.content in
-    c.enter-latitude.ensures ∙ joined_last half v x.id (x.word ∷ []) 1 refl c.in-1.is
+    c.enter_latitude.ensures ∙ joined_last half v x.id (x.word ∷ []) 1 refl c.in-1.is
     ∙ begins_set half v c.args.last x.id x.word (omega arith) (ap begins c.in-1.is)
 
 pub returns-in-2 : goal.returns-in-2
@@ -23,7 +23,7 @@ returns-in-2 c =
     let half = c.args.half in
     let v = value_of c.args.card in
     let x = c.args.content in
-    c.enter-longitude.ensures ∙ joined_last half v x.id (x.word ∷ []) 2 refl c.in-2.is
+    c.enter_longitude.ensures ∙ joined_last half v x.id (x.word ∷ []) 2 refl c.in-2.is
     ∙ begins_set half v c.args.last x.id x.word (omega arith) (ap begins c.in-2.is)
 
 pub returns-in-3 : goal.returns-in-3
@@ -36,8 +36,8 @@ returns-in-3 c =
     ∙ joined_more half v x.id (x.word ∷ []) p.1
     ∙ begins_set half v c.args.last x.id x.word (omega arith) p.0
 
-pub returns-in-default : goal.returns-in-default
-returns-in-default c =
+pub returns-in_default : goal.returns-in_default
+returns-in_default c =
     let id = c.args.content.id in
     let n1 : id ≡ 1 → ⊥ = λ e. grind arith in
     let n2 : id ≡ 2 → ⊥ = λ e. grind arith in

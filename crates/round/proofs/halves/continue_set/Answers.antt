@@ -19,7 +19,7 @@ returns-in-5 c =
     let v = value_of c.args.card in
     let x = c.args.content in
     let ws = words_of c.args.set ++ (x.word ∷ []) in
-    c.enter-telephone.ensures ∙ ap (filled half v 5) c.telephone.ensures ∙ joined_last half v x.id ws 5 refl c.in-5.is
+    c.enter_telephone.ensures ∙ ap (filled half v 5) c.telephone.ensures ∙ joined_last half v x.id ws 5 refl c.in-5.is
     ∙ sym (cond-true _ _ _ (eq-eqb x.id (suc c.args.set.last) (omega arith)))
 
 pub returns-in-12 : goal.returns-in-12
@@ -29,11 +29,11 @@ returns-in-12 c =
     let v = value_of c.args.card in
     let x = c.args.content in
     let ws = words_of c.args.set ++ (x.word ∷ []) in
-    c.enter-message.ensures ∙ ap (filled half v 12) c.message.ensures ∙ joined_last half v x.id ws 12 refl c.in-12.is
+    c.enter_message.ensures ∙ ap (filled half v 12) c.message.ensures ∙ joined_last half v x.id ws 12 refl c.in-12.is
     ∙ sym (cond-true _ _ _ (eq-eqb x.id (suc c.args.set.last) (omega arith)))
 
-pub returns-in-default : goal.returns-in-default
-returns-in-default c =
+pub returns-in_default : goal.returns-in_default
+returns-in_default c =
     let half = c.args.half in
     let v = value_of c.args.card in
     let set = c.args.set in

@@ -25,7 +25,7 @@ pub returns-in-Waiting-default : goal.returns-in-Waiting-default
 unfolding opening round_card told
 returns-in-Waiting-default c =
     let f = c.args.frame.now in
-    c.answered.ensures ∙ ap (beside taken) c.open-round.ensures
+    c.answered.ensures ∙ ap (beside taken) c.open_round.ensures
     ∙ at c.args.round.now _ f _ c.in-Waiting-default.is-0 (moved_zero waiting f c.args.identifier.octets taken c.requires c.if-frame-eq-MARKER.true refl refl)
 
 pub returns-in-Waiting-default-2 : goal.returns-in-Waiting-default-2
@@ -39,7 +39,7 @@ returns-in-Open-default c =
     let f = c.args.frame.now in
     let k = c.in-Open-default in
     let v = value_of k.card in
-    c.answered-in-Open-default.ensures ∙ ap (beside (closed v)) c.open-round-in-Open-default.ensures
+    c.answered-in-Open-default.ensures ∙ ap (beside (closed v)) c.open_round-in-Open-default.ensures
     ∙ at c.args.round.now _ f _ k.is-0 (moved_zero (opened v k.last-0) f c.args.identifier.octets (closed v) c.requires c.if-frame-eq-MARKER-2.true refl refl)
 
 pub returns-in-Open-default-2 : goal.returns-in-Open-default-2
@@ -47,14 +47,14 @@ unfolding round_card told
 returns-in-Open-default-2 c =
     let f = c.args.frame.now in
     let k = c.in-Open-default-2 in
-    on c.args.round.now _ f (on_ok moved_to c.answered-in-Open-default-2.result) (on_ok state_of c.continue-round.result) c.answered-in-Open-default-2.ensures c.continue-round.ensures k.is-0
+    on c.args.round.now _ f (on_ok moved_to c.answered-in-Open-default-2.result) (on_ok state_of c.continue_round.result) c.answered-in-Open-default-2.ensures c.continue_round.ensures k.is-0
     (moved_other (opened (value_of k.card-0) k.last-0) f taken c.if-frame-eq-MARKER-2.false refl)
 
 pub returns-in-Unfinished-default : goal.returns-in-Unfinished-default
 returns-in-Unfinished-default c =
     let f = c.args.frame.now in
     let k = c.in-Unfinished-default in
-    on c.args.round.now _ f (on_ok moved_to c.answered-in-Unfinished-default.result) (on_ok state_of c.continue-round-in-Unfinished-default.result) c.answered-in-Unfinished-default.ensures c.continue-round-in-Unfinished-default.ensures k.is-0
+    on c.args.round.now _ f (on_ok moved_to c.answered-in-Unfinished-default.result) (on_ok state_of c.continue_round-in-Unfinished-default.result) c.answered-in-Unfinished-default.ensures c.continue_round-in-Unfinished-default.ensures k.is-0
     (moved_unfinished f (value_of k.card-0) k.set-0.last (words_of k.set-0))
 
 pub returns-in-Closing-default : goal.returns-in-Closing-default
@@ -63,7 +63,7 @@ returns-in-Closing-default c =
     let f = c.args.frame.now in
     let k = c.in-Closing-default in
     let v = value_of k.card in
-    c.answered-in-Closing-default.ensures ∙ ap (beside (closed v)) c.open-round-in-Closing-default.ensures
+    c.answered-in-Closing-default.ensures ∙ ap (beside (closed v)) c.open_round-in-Closing-default.ensures
     ∙ at c.args.round.now _ f _ k.is-0 (moved_zero (closing v) f c.args.identifier.octets (closed v) c.requires c.if-frame-eq-MARKER-3.true refl refl)
 
 pub returns-in-Closing-default-2 : goal.returns-in-Closing-default-2
@@ -71,5 +71,5 @@ unfolding round_card told
 returns-in-Closing-default-2 c =
     let f = c.args.frame.now in
     let k = c.in-Closing-default-2 in
-    on c.args.round.now _ f (on_ok moved_to c.answered-in-Closing-default-2.result) (on_ok state_of c.continue-round-in-Closing-default-2.result) c.answered-in-Closing-default-2.ensures c.continue-round-in-Closing-default-2.ensures k.is-0
+    on c.args.round.now _ f (on_ok moved_to c.answered-in-Closing-default-2.result) (on_ok state_of c.continue_round-in-Closing-default-2.result) c.answered-in-Closing-default-2.ensures c.continue_round-in-Closing-default-2.ensures k.is-0
     (moved_other (closing (value_of k.card-0)) f taken c.if-frame-eq-MARKER-3.false refl)

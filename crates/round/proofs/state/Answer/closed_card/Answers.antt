@@ -6,6 +6,6 @@ pub returns-in-Closed : goal.returns-in-Closed
 unfolding card_after
 returns-in-Closed c = search rules
 
-pub returns-in-default : goal.returns-in-default
+pub returns-in_default : goal.returns-in_default
 unfolding card_after
-returns-in-default c = search rules
+returns-in_default c = search rules
