@@ -3,11 +3,11 @@
 ghost use Rattle.std.specs.Prelude.{◌≡◌, ◌<◌, ◌≤◌, length};
 
 use card::Card;
-use line::{LONGEST, Line};
+use line::LONGEST;
 
 /// Sends the frames of a card over a line, block by block, take after take.
 #[derive(Drop)]
-pub struct Sender<L: Line> {
+pub struct Sender<L> {
     pub(crate) line: L,
     pub(crate) card: Card,
     /// The number of the frame whose take is going out or comes next.

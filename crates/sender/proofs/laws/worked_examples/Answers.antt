@@ -1,5 +1,5 @@
 use Rattle.std.proofs.Common.{refl}
-use Rattle.coding.specs.Bits.{bits, number_after, group_bits, groups}
+use Rattle.coding.specs.Bits.{bits, number_after, octet_bits, group_bits, groups}
 use Rattle.coding.specs.Polynomial.{reduced, remainder}
 use Rattle.content.specs.Sequence.{numbered}
 use Rattle.chips.specs.Chips.{start, shift, run, pattern}
@@ -7,7 +7,7 @@ use Rattle.sender.specs.Signal.{generated}
 use Rattle.sender.proofs.laws.worked_examples.Goals as goal
 
 pub returns : goal.returns
-unfolding bits number_after group_bits groups reduced remainder numbered start shift run pattern generated
+unfolding bits number_after octet_bits group_bits groups reduced remainder numbered start shift run pattern generated
 returns c = record {
   check_octet = refl;
   north = refl;

@@ -7,11 +7,11 @@ pub returns : goal.returns
 returns g c =
     let m = g.L.Line.model c.args.line.now in
     let size = c.args.size in
-    let long : length c.encode-into.new.out ≡ size = search rules in
+    let long : length c.encode_into.new.out ≡ size = search rules in
     let none : size - 0 ≡ size = omega arith in
     let blank : take (size - 0) (replicate 4096 0) ≡ replicate size 0 =
     ap (λ (n : ℕ). take n (replicate 4096 0)) none ∙ take-replicate size 4096 0 (omega arith)
     in
-    take_at c.encode-into.new.out _ size long
-    ∙ c.encode-into.ensures
+    take_at c.encode_into.new.out _ size long
+    ∙ c.encode_into.ensures
     ∙ ap (encode_output m c.args.word.now c.args.last) blank

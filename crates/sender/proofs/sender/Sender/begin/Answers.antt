@@ -13,7 +13,7 @@ returns g c =
     let word : c.bits-word.result ≡ frame_bits (frame_of (sending_of s).card s.number) =
     c.bits-word.ensures.is ∙ ap frame_bits c.of.ensures
     in
-    let bits : take s.size c.line-bits-self.result ≡ begun m (sending_of s) =
-    c.line-bits-self.ensures ∙ ap (λ (w : List ℕ). encode_output m w s.last (replicate s.size 0)) word
+    let bits : take s.size c.line_bits-self.result ≡ begun m (sending_of s) =
+    c.line_bits-self.ensures ∙ ap (λ (w : List ℕ). encode_output m w s.last (replicate s.size 0)) word
     in
     record { sending = ap (λ (left : List ℕ). with_left left (sending_of s)) bits; start = refl; line = refl }

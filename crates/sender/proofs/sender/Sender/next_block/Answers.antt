@@ -8,13 +8,13 @@ use Rattle.sender.proofs.Takes.{sends_takes}
 use Rattle.sender.proofs.Chipped.{standard_signal}
 use Rattle.sender.proofs.sender.Sender.next_block.Goals as goal
 
-pub returns-in-err-check-call : goal.returns-in-err-check-call
-returns-in-err-check-call g c =
+pub returns-in_err-check_call : goal.returns-in_err-check_call
+returns-in_err-check_call g c =
     let s = c.args.self.now in
-    let p = err_from_is_err_and c.from-residual.result c.from-residual.ensures.1 in
-    let q = refused (g.L.Line.model s.line) (sending_of s) c.args.out.now _ c.in-err-check-call.ensures in
+    let p = err_from_is_err_and c.from_residual.result c.from_residual.ensures.1 in
+    let q = refused (g.L.Line.model s.line) (sending_of s) c.args.out.now _ c.in_err-check_call.ensures in
     record {
-      answer = p.1 ∙ ap Err p.2 ∙ c.in-err-check-call.ensures;
+      answer = p.1 ∙ ap Err p.2 ∙ c.in_err-check_call.ensures;
       output = q.0;
       sending = q.1;
       line = refl;
@@ -22,22 +22,22 @@ returns-in-err-check-call g c =
       standard = standard_signal;
     }
 
-pub returns-in-err-spread : goal.returns-in-err-spread
-returns-in-err-spread g c =
-    absurd (not_refused c.args.self.now.number c.args.out.now _ c.in-ok-check-call.ensures c.in-err-spread.ensures.answer)
+pub returns-in_err-spread : goal.returns-in_err-spread
+returns-in_err-spread g c =
+    absurd (not_refused c.args.self.now.number c.args.out.now _ c.in_ok-check_call.ensures c.in_err-spread.ensures.answer)
 
 pub returns : goal.returns
 returns g c =
     let s = c.args.self.now in
     let ready = c.ready.ensures.sending in
     let r = c.ready.new.self in
-    let f = c.first-left.new.self in
-    let is = c.first-left.ensures in
+    let f = c.first_left.new.self in
+    let is = c.first_left.ensures in
     let within = c.ready.ensures.within in
     let room : r.size ≤ length r.bits = omega (arith, r.full, r.room) in
     let p =
-    accepted (g.L.Line.model s.line) (sending_of s) c.args.out.now c.first-left.result
-    (sending_of c.first-left.new.self) c.spread.new.out c.in-ok-check-call.ensures
+    accepted (g.L.Line.model s.line) (sending_of s) c.args.out.now c.first_left.result
+    (sending_of c.first_left.new.self) c.spread.new.out c.in_ok-check_call.ensures
     (is.bit ∙ first_is r.sent r.size r.bits room within ∙ ap (λ (x : Sending). get_or x.left 0 0) ready)
     (first_sent r.sent r.size r.bits room within (sending_of r) (sending_of f) refl (ap value_of is.card) is.number
     (is.last ∙ ap (λ (b : ℕ). cond (eqb (r.sent + 1) r.size) b r.last) is.bit) is.size
@@ -45,10 +45,10 @@ returns g c =
     c.spread.ensures.output
     in
     record {
-      answer = c.in-ok-check-call.ensures;
+      answer = c.in_ok-check_call.ensures;
       output = p.0;
       sending = p.1;
-      line = c.first-left.ensures.line ∙ c.ready.ensures.line;
+      line = c.first_left.ensures.line ∙ c.ready.ensures.line;
       takes = sends_takes;
       standard = standard_signal;
     }
