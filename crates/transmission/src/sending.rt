@@ -69,9 +69,9 @@ fn next<L: Line>(sender: &mut Sender<L>) -> Result<[u8; 512], SenderRefusal> {
 
 /// Tells how a block begins.
 fn tell_block(rt: &HostRuntime, number: usize, block: &[u8; 512]) -> io::Result<()> {
-    print!(rt, "  block {number} begins ")?;
+    print!(rt; "  block {number} begins ")?;
     for octet in &block[0..BEGINNING] {
-        print!(rt, "{octet:02X}")?;
+        print!(rt; "{octet:02X}")?;
     }
     println!(rt)
 }

@@ -48,7 +48,7 @@ fn tell_damage<L: Line>(
     places: &[usize],
 ) -> io::Result<()> {
     let flipped = places.len();
-    print!(rt, "  send 244 ones, flip {flipped} line bits{how}: ")?;
+    print!(rt; "  send 244 ones, flip {flipped} line bits{how}: ")?;
     match errors_left(line, &[1; 244], bits, places) {
         Ok(left) => println!(rt; "{left} errors left"),
         Err(refusal) => {

@@ -23,11 +23,11 @@ pub fn run(rt: &HostRuntime, card: &Card) -> io::Result<()> {
 /// Prints the bits of the card's frame 1, four to a digit.
 fn print_frame(rt: &HostRuntime, card: &Card) -> io::Result<()> {
     println!(rt; "Building frame 1: its 244 bits in hexadecimal, unique word, half 1, half 2.")?;
-    print!(rt, "  ")?;
+    print!(rt; "  ")?;
     let bits = Frame::of(card, 1).bits();
     for digit in bits.chunks(4) {
         let value = read_bits(digit);
-        print!(rt, "{value:X}")?;
+        print!(rt; "{value:X}")?;
     }
     println!(rt)
 }
