@@ -2,12 +2,12 @@
 
 ghost use Rattle.std.specs.Prelude.{◌≡◌, ◌<◌, ◌≤◌, length};
 
-use line::{LONGEST, Line};
+use line::LONGEST;
 use round::RoundReader;
 
 /// Reads cards from the blocks that arrive over a line.
 #[derive(Drop)]
-pub struct Reader<L: Line> {
+pub struct Reader<L> {
     pub(crate) line: L,
     /// How many line bits a take has.
     pub(crate) size: usize,

@@ -14,20 +14,20 @@ pub loop-i-preserved : goal.loop-i-preserved
 loop-i-preserved g c =
     let inv = c.loop-i.invariant in
     let m = g.L.Line.model c.args.reader.now.line in
-    let i = c.loop-i.-i in
-    let r = c.pass-block.new.reader in
-    let s = c.pass-block.new.sender in
-    let t = c.in-ok-tally.tally in
+    let i = c.loop-i._i in
+    let r = c.pass_block.new.reader in
+    let s = c.pass_block.new.sender in
+    let t = c.in_ok-tally.tally in
     let before = c.loop-i.tally in
     let more : OneMore m (receiving_of c.loop-i.reader) before.refused before.closed (receiving_of r) t.refused t.closed =
     subst (λ l. OneMore (g.L.Line.model l) (receiving_of c.loop-i.reader) before.refused before.closed (receiving_of r) t.refused t.closed)
-    inv.2 c.in-ok-tally.ensures.heard
+    inv.2 c.in_ok-tally.ensures.heard
     in
-    let sending = c.pass-block.ensures.sending ∙ ap (λ l. next_sending (g.L.Line.model l) (sending_of c.loop-i.sender) 512) inv.3 in (
+    let sending = c.pass_block.ensures.sending ∙ ap (λ l. next_sending (g.L.Line.model l) (sending_of c.loop-i.sender) 512) inv.3 in (
       one_passed m i (receiving_of c.args.reader.now) (receiving_of c.loop-i.reader) (receiving_of r) _ _ _ _ inv.0 more,
       one_sent (g.L.Line.model c.args.sender.now.line) i (sending_of c.args.sender.now) (sending_of c.loop-i.sender) (sending_of s) inv.1 sending,
-      c.pass-block.ensures.reader-line ∙ inv.2,
-      c.pass-block.ensures.sender-line ∙ inv.3,
+      c.pass_block.ensures.reader_line ∙ inv.2,
+      c.pass_block.ensures.sender_line ∙ inv.3,
       omega (arith, inv.4, more.refused_is, refused_most (on_block m (receiving_of c.loop-i.reader) more.block).answer),
       omega (arith, inv.5, more.closed_is, closed_most (on_block m (receiving_of c.loop-i.reader) more.block).answer),
     )

@@ -7,8 +7,8 @@ use Rattle.carrier.proofs.passing.pass_blocks.Given as goal
 
 abbrev pub invariant-loop-i : goal.invariant-loop-i
 invariant-loop-i g l =
-    Passed (g.L.Line.model l.initial.reader.line) l.-i (receiving_of l.initial.reader) l.tally.refused l.tally.closed
+    Passed (g.L.Line.model l.initial.reader.line) l._i (receiving_of l.initial.reader) l.tally.refused l.tally.closed
     (receiving_of l.reader)
-    × (sending_of l.sender ≡ after_calls (g.L.Line.model l.initial.sender.line) l.-i (sending_of l.initial.sender))
+    × (sending_of l.sender ≡ after_calls (g.L.Line.model l.initial.sender.line) l._i (sending_of l.initial.sender))
     × (l.reader.line ≡ l.initial.reader.line) × (l.sender.line ≡ l.initial.sender.line)
-    × (l.tally.refused ≤ l.-i) × (l.tally.closed ≤ l.-i)
+    × (l.tally.refused ≤ l._i) × (l.tally.closed ≤ l._i)

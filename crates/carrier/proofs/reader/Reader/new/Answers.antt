@@ -5,8 +5,8 @@ use Rattle.carrier.proofs.Blocks.{same}
 use Rattle.carrier.proofs.Starting.{refused_line, made, some_bit, room}
 use Rattle.carrier.proofs.reader.Reader.new.Goals as goal
 
-pub returns-in-default : goal.returns-in-default
-returns-in-default g c = record { receiving = refused_line (g.L.Line.model c.args.line) c.in-default.ensures; line = tt }
+pub returns-in_default : goal.returns-in_default
+returns-in_default g c = record { receiving = refused_line (g.L.Line.model c.args.line) c.in_default.ensures; line = tt }
 
 pub fresh-requires : goal.fresh-requires
 fresh-requires g c =

@@ -9,11 +9,11 @@ use Rattle.carrier.specs.Receiving.{Received, receiving_of, of_take, take_outcom
 use Rattle.carrier.proofs.Blocks.{no_block, a_block, not_whole, whole, same, heard_same}
 use Rattle.carrier.proofs.reader.Reader.receive.Goals as goal
 
-pub returns-in-err-bit : goal.returns-in-err-bit
-returns-in-err-bit g c =
+pub returns-in_err-bit : goal.returns-in_err-bit
+returns-in_err-bit g c =
     let s = c.args.self.now in
-    let p = err_from_is_err_and c.from-residual.result c.from-residual.ensures.1 in
-    let is = no_block (g.L.Line.model s.line) (receiving_of s) c.args.block.now _ c.in-err-bit.ensures.answer in
+    let p = err_from_is_err_and c.from_residual.result c.from_residual.ensures.1 in
+    let is = no_block (g.L.Line.model s.line) (receiving_of s) c.args.block.now _ c.in_err-bit.ensures.answer in
     record {
       answer = ap (on_ok answer_of) (p.1 ∙ ap Err (p.2 ∙ ap of_block (only_length _))) ∙ sym (ap (λ (x : Received). x.answer) is);
       after = sym (ap (λ (x : Received). x.after) is);
@@ -29,8 +29,8 @@ returns-then-not-hear g c =
     let room : s.size ≤ length s.bits = omega (arith, s.full, s.room) in
     let no : eqb (s.heard + 1) s.size ≡ false = sym heard.whole ∙ c.if-not-hear.true in
     let is =
-    a_block m (receiving_of s) c.args.block.now c.in-ok-bit.bit c.in-ok-bit.ensures.answer
-    ∙ not_whole m s.heard s.size s.bits (reading_of s.rounds) c.in-ok-bit.bit s.within room no
+    a_block m (receiving_of s) c.args.block.now c.in_ok-bit.bit c.in_ok-bit.ensures.answer
+    ∙ not_whole m s.heard s.size s.bits (reading_of s.rounds) c.in_ok-bit.bit s.within room no
     in
     let count : h.heard ≡ s.heard + 1 = heard.heard ∙ ap (λ (b : Bool). cond b 0 (s.heard + 1)) c.if-not-hear.true in
     record {
@@ -47,11 +47,11 @@ returns g c =
     let m = g.L.Line.model s.line in
     let h = c.hear.new.self in
     let heard = c.hear.ensures in
-    let bit = c.in-ok-bit.bit in
+    let bit = c.in_ok-bit.bit in
     let room : s.size ≤ length s.bits = omega (arith, s.full, s.room) in
     let yes : eqb (s.heard + 1) s.size ≡ true = sym heard.whole ∙ c.if-not-hear.false in
     let is =
-    a_block m (receiving_of s) c.args.block.now bit c.in-ok-bit.ensures.answer
+    a_block m (receiving_of s) c.args.block.now bit c.in_ok-bit.ensures.answer
     ∙ whole m s.heard s.size s.bits (reading_of s.rounds) bit s.within room yes
     in
     let bits = take s.size (set s.bits s.heard bit) in
@@ -60,8 +60,8 @@ returns g c =
     ∙ ap₂ (λ (r : Reading) (x : List ℕ). take_outcome m r x) (ap reading_of heard.rounds) (heard_same s.size h.size _ h.bits heard.size heard.bits)
     in
     let none : h.heard ≡ 0 = heard.heard ∙ ap (λ (b : Bool). cond b 0 (s.heard + 1)) c.if-not-hear.false in
-    let w = c.take-whole.new.self in
-    let took = c.take-whole.ensures in
+    let w = c.take_whole.new.self in
+    let took = c.take_whole.ensures in
     record {
       answer = took.answer ∙ ap (λ (o : Outcome). of_take o.answer) same-take ∙ sym (ap (λ (x : Received). x.answer) is);
       after =

@@ -8,16 +8,16 @@ use Rattle.round.specs.Views.{answer_of, reading_of}
 use Rattle.carrier.specs.Receiving.{of_take, take_outcome}
 use Rattle.carrier.proofs.reader.Reader.take_whole.Goals as goal
 
-pub returns-in-err-take : goal.returns-in-err-take
+pub returns-in_err-take : goal.returns-in_err-take
 unfolding take_outcome
-returns-in-err-take g c =
+returns-in_err-take g c =
     let r = reading_of c.args.self.now.rounds in
-    let p = err_from_is_err_and c.from-residual.result c.from-residual.ensures.1 in
+    let p = err_from_is_err_and c.from_residual.result c.from_residual.ensures.1 in
     record {
       answer =
           ap (on_ok answer_of) (p.1 ∙ ap Err p.2)
-          ∙ ap of_take (c.in-err-take.ensures.answer ∙ ap (λ (t : Result Frame FrameRefusal). (on_take r t).answer) c.judge-take-judged.ensures);
-      after = c.take.ensures.after ∙ ap (λ (t : Result Frame FrameRefusal). (on_take r t).after) c.judge-take-judged.ensures;
+          ∙ ap of_take (c.in_err-take.ensures.answer ∙ ap (λ (t : Result Frame FrameRefusal). (on_take r t).answer) c.judge_take-judged.ensures);
+      after = c.take.ensures.after ∙ ap (λ (t : Result Frame FrameRefusal). (on_take r t).after) c.judge_take-judged.ensures;
       heard = refl;
       size = refl;
       line = refl;
@@ -28,8 +28,8 @@ unfolding take_outcome
 returns g c =
     let r = reading_of c.args.self.now.rounds in
     record {
-      answer = ap of_take (c.in-ok-take.ensures.answer ∙ ap (λ (t : Result Frame FrameRefusal). (on_take r t).answer) c.judge-take-judged.ensures);
-      after = c.take.ensures.after ∙ ap (λ (t : Result Frame FrameRefusal). (on_take r t).after) c.judge-take-judged.ensures;
+      answer = ap of_take (c.in_ok-take.ensures.answer ∙ ap (λ (t : Result Frame FrameRefusal). (on_take r t).answer) c.judge_take-judged.ensures);
+      after = c.take.ensures.after ∙ ap (λ (t : Result Frame FrameRefusal). (on_take r t).after) c.judge_take-judged.ensures;
       heard = refl;
       size = refl;
       line = refl;
