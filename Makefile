@@ -1,17 +1,20 @@
 # The two commands of README.md. Each does all its own set-up; both need the Rattle kit, whose command is `rt`.
 
-.PHONY: run test kit
+PROGRAMS := trial transmission
 
-# Proves and builds the program `trial` and runs it.
-run: kit
+.PHONY: run test kit $(PROGRAMS)
+
+# Proves and builds the programs and runs them, one after the other.
+run: $(PROGRAMS)
+
+$(PROGRAMS): kit
 	@mkdir -p target
-	@echo "Proving and building trial; the log is target/run.log."
-	@rt check trial > target/run.log 2>&1 || { tail -n 30 target/run.log; exit 1; }
-	@./target/bin/trial
+	@echo "Proving and building $@; the log is target/run-$@.log."
+	@cd crates/$@ && rt run 2> ../../target/run-$@.log || { tail -n 30 ../../target/run-$@.log; exit 1; }
 
 # Proves every crate from nothing, tries the must-fail edits, and runs the programs and the tests.
 test: kit
-	@rt ci
+	@tools/gate
 
 kit:
 	@command -v rt > /dev/null || { echo "rt is not on the PATH: install the Rattle kit that README.md names" >&2; exit 1; }

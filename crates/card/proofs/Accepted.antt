@@ -1,5 +1,5 @@
 -- What is accepted is lawful.
-use Rattle.std.proofs.Common.{◌≡◌, ℕ, ◌≤◌, Bool, true, false, ◌&&◌, leb, List, length, Some, None, Ok, Err, Option, refl, arith}
+use Rattle.std.proofs.Common.{◌≡◌, ℕ, ◌≤◌, Bool, true, false, ◌&&◌, leb, List, length, Some, None, Ok, Option, refl, arith}
 use Rattle.std.proofs.lemmas.Bool.{and_parts, leb-true}
 use Rattle.card.specs.Fields.{each, length_within, is_symbol, extension_inside, is_telephone, is_printing, is_message, missing_or}
 use Rattle.std.specs.Result.{result_and}

@@ -1,5 +1,5 @@
 -- The rules of the identifier and of the four kinds of field. Octets and symbols are numbers, a symbol the code of its character.
-use Rattle.std.specs.Prelude.{ℕ, suc, ◌+◌, ◌-◌, ◌%◌, Bool, true, false, cond, not, ◌&&◌, ◌||◌, List, [], ◌∷◌, length, Some, None, Option, ◌==◌, nat_le, slice_index}
+use Rattle.std.specs.Prelude.{ℕ, ◌+◌, ◌-◌, ◌%◌, Bool, true, cond, not, ◌&&◌, ◌||◌, List, [], ◌∷◌, length, Some, None, Option, ◌==◌, nat_le, slice_index}
 use Rattle.card.specs.declared.fields.Coordinate.{Coordinate}
 
 -- whether each number of a list passes a test

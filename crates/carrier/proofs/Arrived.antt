@@ -2,7 +2,6 @@
 use Rattle.std.proofs.Common.{◌≡◌, ℕ, ◌<◌, ◌≤◌, true, List, map, length, replicate, Ok, sym, refl, ap, ◌∙◌, le_trans}
 use lib.ListN.{length-map}
 use Rattle.std.specs.List.{AllByRecursion}
-use Rattle.coding.specs.Bits.{are_bits}
 use Rattle.coding.specs.Distance.{distance}
 use Rattle.card.specs.Card.{CardValue}
 use Rattle.line.specs.Line.{Model, Word, LineRules}

@@ -1,21 +1,16 @@
 -- One block more.
-use Rattle.std.proofs.Common.{◌≡◌, ℕ, suc, ◌+◌, ◌<◌, ◌≤◌, Bool, true, false, cond, eqb, List, [], ◌∷◌, ◌++◌, length, take, set, replicate, Ok, Err, Result, sym, refl, ap, ◌∙◌, ap₂, arith}
+use Rattle.std.proofs.Common.{◌≡◌, ℕ, ◌+◌, ◌<◌, ◌≤◌, Bool, true, false, cond, eqb, List, [], ◌∷◌, ◌++◌, length, take, set, Ok, Err, sym, refl, ap, ◌∙◌, ap₂, arith}
 use Rattle.std.proofs.lemmas.List.{length-take-le, take_more_set}
 use Rattle.std.proofs.lemmas.Bool.{eqb-true}
-use Rattle.card.specs.Card.{on_ok}
 use Rattle.line.specs.Line.{Model}
-use Rattle.line.specs.Calls.{decode_output}
-use Rattle.frame.specs.Judging.{judged}
 use Rattle.chips.specs.Chips.{despread}
 use Rattle.chips.specs.Calls.{despread_answer}
 use Rattle.chips.specs.declared.refusal.BlockRefusal.{BlockRefusal}
 use Rattle.chips.specs.declared.refusal.BlockRefusal.TheVariants.{WrongLength}
-use Rattle.round.specs.Rounds.{Answer, Reading, Outcome, on_take}
+use Rattle.round.specs.Rounds.{Reading}
 use Rattle.round.specs.Rounds.Answer.{counted}
-use Rattle.round.specs.declared.refusal.TakeRefusal.{TakeRefusal}
-use Rattle.carrier.specs.declared.refusal.ReaderRefusal.{ReaderRefusal}
-use Rattle.carrier.specs.declared.refusal.ReaderRefusal.TheVariants.{BlockLength, Take}
-use Rattle.carrier.specs.Receiving.{Receiving, Received, of_take, take_outcome, on_whole, on_bit, on_block}
+use Rattle.carrier.specs.declared.refusal.ReaderRefusal.TheVariants.{BlockLength}
+use Rattle.carrier.specs.Receiving.{Receiving, of_take, take_outcome, on_whole, on_bit, on_block}
 
 module _ (m : Model) (s : Receiving) (block : List ℕ) where
   pub no_block : (e : BlockRefusal) → Err e ≡ despread_answer block → on_block m s block ≡ record { answer = Err BlockLength; after = s }

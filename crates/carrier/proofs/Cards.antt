@@ -1,11 +1,11 @@
 -- A card that is opened and acted upon keeps its rules.
-use Rattle.std.proofs.Common.{◌≡◌, ℕ, ◌-◌, ◌<◌, Bool, true, false, cond, ◌&&◌, eqb, leb, List, [], ◌∷◌, length, get_or, drop, is_ok, IfOk, Some, None, Ok, Err, Result, sym, refl, ap, ◌∙◌, arith}
+use Rattle.std.proofs.Common.{◌≡◌, ℕ, ◌-◌, ◌<◌, Bool, true, false, cond, eqb, List, [], ◌∷◌, length, get_or, drop, is_ok, IfOk, Some, None, Ok, Err, Result, refl, ap, ◌∙◌, arith}
 use Rattle.std.specs.List.{AllByRecursion}
 use Rattle.std.proofs.lemmas.List.{length-drop}
 use Rattle.std.proofs.lemmas.Bool.{eqb-true}
 use Rattle.coding.specs.Bits.{octet_bits}
 use Rattle.coding.specs.Crc.{crc8}
-use Rattle.card.specs.Fields.{keeps_first_octet, is_latitude, is_longitude, is_telephone, is_message}
+use Rattle.card.specs.Fields.{keeps_first_octet, is_latitude, is_longitude}
 use Rattle.card.specs.Card.{CardValue, Lawful, Act, on_ok, opened, blank, unless, answer_to, telephone_answer, message_answer, with_latitude, with_longitude, with_telephone, with_message, card_after, card_after_all}
 use Rattle.card.specs.Card.Act.{enter_latitude, enter_longitude, enter_telephone, enter_message, clear_field}
 use Rattle.card.specs.Life.{Stands}

@@ -1,7 +1,7 @@
 -- What a reader answers to the blocks of takes: before a take's last block counted, and then what it answers to the take.
-use Rattle.std.proofs.Common.{◌≡◌, ℕ, zero, suc, ◌+◌, ◌-◌, ◌*◌, ◌<◌, ◌≤◌, Bool, true, false, cond, eqb, List, [], ◌∷◌, ◌++◌, map, length, take, drop, replicate, Ok, Err, Result, sym, refl, ap, ◌∙◌, subst, ap₂, suc-mul, zero-mul, arith}
+use Rattle.std.proofs.Common.{◌≡◌, ℕ, zero, suc, ◌+◌, ◌-◌, ◌<◌, ◌≤◌, true, false, eqb, List, [], ◌∷◌, ◌++◌, map, length, take, drop, replicate, Ok, Err, Result, sym, refl, ap, ◌∙◌, ap₂, arith}
 use Rattle.std.specs.List.{AllByRecursion}
-use Rattle.std.proofs.lemmas.List.{append_assoc, append-nil, length_push, length-append, take-append-drop, length-take-le, length-drop}
+use Rattle.std.proofs.lemmas.List.{append_assoc, length_push, take-append-drop, length-take-le}
 use Rattle.std.proofs.lemmas.Bool.{eq-eqb, ne_eqb}
 use Rattle.card.specs.Card.{CardValue}
 use Rattle.line.specs.Line.{Model}
@@ -19,7 +19,7 @@ use Rattle.sender.specs.Takes.{in_order}
 use Rattle.round_laws.specs.TwoRounds.{refusals, closed_by, closed_cards, ClosesOnce}
 use Rattle.carrier.specs.declared.refusal.ReaderRefusal.{ReaderRefusal}
 use Rattle.carrier.specs.declared.refusal.ReaderRefusal.TheVariants.{Take}
-use Rattle.carrier.specs.Receiving.{Receiving, Received, of_take, take_outcome, on_whole, on_bit, on_block, answers_to, receiving_after}
+use Rattle.carrier.specs.Receiving.{Receiving, Received, of_take, take_outcome, on_whole, on_bit, on_block, answers_to}
 
 -- a reader that has heard these bits of a take of so many
 abbrev pub hearing : List ℕ → ℕ → Reading → Receiving

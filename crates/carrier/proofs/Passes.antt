@@ -1,8 +1,7 @@
 -- Blocks that pass one after the other.
-use Rattle.std.proofs.Common.{◌≡◌, ℕ, zero, suc, ◌+◌, ◌<◌, ◌≤◌, List, [], ◌∷◌, ◌++◌, map, length, Ok, Err, Result, sym, refl, ap, ◌∙◌, ap₂, add-zero, add-one, arith}
+use Rattle.std.proofs.Common.{◌≡◌, ℕ, ◌+◌, ◌≤◌, List, [], ◌∷◌, ◌++◌, length, Ok, Err, Result, sym, refl, ap, ◌∙◌, ap₂, arith}
 use Rattle.std.proofs.lemmas.List.{length-append, length_push}
 use Rattle.std.proofs.ByRecursion.{All-push}
-use Rattle.card.specs.Card.{CardValue}
 use Rattle.line.specs.Line.{Model}
 use Rattle.chips.specs.Laws.{IsBlock}
 use Rattle.sender.specs.Sending.{Sending, next_sending}

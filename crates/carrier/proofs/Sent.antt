@@ -1,12 +1,12 @@
 -- What a sender for two rounds writes.
-use Rattle.std.proofs.Common.{◌≡◌, ℕ, zero, suc, ◌+◌, ◌*◌, ◌<◌, ◌≤◌, Bool, true, false, cond, eqb, ltb, leb, List, [], ◌∷◌, map, length, Ok, Err, Option, Result, sym, refl, ap, ◌∙◌, ap₂, arith}
+use Rattle.std.proofs.Common.{◌≡◌, ℕ, zero, suc, ◌+◌, ◌*◌, ◌<◌, ◌≤◌, Bool, true, false, cond, ltb, leb, List, [], ◌∷◌, map, length, Ok, Err, Option, Result, sym, refl, ap, ◌∙◌, arith}
 use lib.ListN.{length-map}
-use Rattle.std.proofs.lemmas.Bool.{ltb-true, leb-true, le-leb}
+use Rattle.std.proofs.lemmas.Bool.{ltb-true, leb-true}
 use Rattle.card.specs.Card.{CardValue, on_ok}
 use Rattle.content.specs.Sequence.{round_length}
 use Rattle.line.specs.Line.{Model, LineRules}
-use Rattle.sender.specs.Sending.{Sending, start_answer, started, next_answer, next_output, next_sending}
-use Rattle.sender.specs.Takes.{room, called, calls, after_calls, takes_of, in_order, BetweenTakes, Sends}
+use Rattle.sender.specs.Sending.{Sending, started, next_answer, next_output, next_sending}
+use Rattle.sender.specs.Takes.{room, called, calls, after_calls, takes_of, in_order, BetweenTakes}
 use Rattle.sender.specs.declared.refusal.SenderRefusal.{SenderRefusal}
 use Rattle.sender.specs.declared.refusal.SenderRefusal.TheVariants.{FrameNotTaken, LastBit, FrameNumber}
 use Rattle.sender.proofs.Takes.{sends_takes}

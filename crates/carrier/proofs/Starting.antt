@@ -1,5 +1,5 @@
 -- Making a reader, and one line bit more.
-use Rattle.std.proofs.Common.{◌≡◌, ℕ, ◌+◌, ◌<◌, ◌≤◌, Bool, true, false, cond, List, [], ◌∷◌, ◌++◌, length, take, set, Some, None, Ok, Err, sym, refl, ap, ◌∙◌, arith}
+use Rattle.std.proofs.Common.{◌≡◌, ℕ, ◌<◌, ◌≤◌, Some, None, Ok, Err, arith}
 use Rattle.line.specs.Line.{Model, LineRules}
 use Rattle.line.specs.Calls.{length_of}
 use Rattle.line.proofs.Answers.{length_some}

@@ -1,11 +1,10 @@
 -- The guarantee of two rounds.
-use Rattle.std.proofs.Common.{◌≡◌, ℕ, zero, suc, ◌+◌, ◌-◌, ◌*◌, ◌<◌, ◌≤◌, true, List, [], ◌∷◌, ◌++◌, map, length, take, drop, Ok, Err, Result, sym, refl, ap, ◌∙◌, subst, ap₂, suc-mul, zero-mul, arith}
+use Rattle.std.proofs.Common.{◌≡◌, ℕ, zero, suc, ◌+◌, ◌-◌, ◌*◌, ◌<◌, ◌≤◌, true, List, [], ◌∷◌, ◌++◌, map, length, take, drop, Ok, Result, sym, refl, ap, ◌∙◌, subst, ap₂, suc-mul, zero-mul, arith}
 use lib.ListN.{length-map}
 use Rattle.std.specs.List.{AllByRecursion}
 use Rattle.std.proofs.lemmas.List.{take_at, drop_at, length-append, length-take-le, length-drop, drop-drop}
 use Rattle.std.proofs.ByRecursion.{All-take, All-drop}
-use Rattle.card.specs.Card.{CardValue, Lawful, card_after_all}
-use Rattle.card.specs.Life.{Stands}
+use Rattle.card.specs.Card.{CardValue, Lawful}
 use Rattle.content.specs.Sequence.{round_length}
 use Rattle.line.specs.Line.{Model, LineRules}
 use Rattle.line.proofs.EveryLine.{some_line_bit}
@@ -13,20 +12,18 @@ use Rattle.frame.specs.Frame.{frame_of}
 use Rattle.frame.specs.Judging.{Sendable}
 use Rattle.chips.specs.Chips.{block, lost}
 use Rattle.chips.specs.Laws.{IsBlock}
-use Rattle.round.specs.Rounds.{Answer, fresh}
-use Rattle.round.specs.Rounds as rounds
-use Rattle.sender.specs.Sending.{Sending}
-use Rattle.sender.specs.Takes.{line_bits, last_of, take_of, takes_of, in_order, calls, BetweenTakes}
+use Rattle.round.specs.Rounds.{fresh}
+use Rattle.sender.specs.Takes.{line_bits, last_of, take_of, takes_of, in_order}
 use Rattle.sender.specs.declared.refusal.SenderRefusal.{SenderRefusal}
 use Rattle.sender.proofs.Takes.{line_word, last_bit, sends_takes}
 use Rattle.round_laws.specs.TwoRounds.{frames_from, closed_cards, ClosesOnce}
 use Rattle.round_laws.proofs.Frames.{two_rounds}
 use Rattle.round_laws.proofs.Rooms.{frames_have_room}
 use Rattle.carrier.specs.Receiving.{fresh_of, answers_to}
-use Rattle.carrier.specs.Guarantee.{nth_take, Run, Delivers, SameCard, Holds, Guarantee}
+use Rattle.carrier.specs.Guarantee.{nth_take, Run, Delivers, SameCard, Guarantee}
 use Rattle.carrier.proofs.Cards.{stands, lawful, eight, octets}
 use Rattle.carrier.proofs.Arrived.{Arrives, judged_as}
-use Rattle.carrier.proofs.Heard.{Judged, all_takes, told, closes_once}
+use Rattle.carrier.proofs.Heard.{Judged, all_takes, closes_once}
 
 -- ---- lists
 -- take 0 among takes, and the others

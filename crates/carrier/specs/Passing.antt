@@ -1,5 +1,5 @@
 -- What came of blocks that passed from a sender to a reader.
-use Rattle.std.specs.Prelude.{◌≡◌, ℕ, ◌+◌, ◌*◌, cond, List, [], ◌∷◌, map, length, Ok, Err, Option, Result, nat_le}
+use Rattle.std.specs.Prelude.{◌≡◌, ℕ, ◌+◌, ◌*◌, cond, List, map, length, Ok, Err, Option, Result, nat_le}
 use Rattle.std.specs.List.{AllByRecursion}
 use Rattle.card.specs.Card.{CardValue}
 use Rattle.content.specs.Sequence.{round_length}

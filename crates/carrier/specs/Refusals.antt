@@ -3,7 +3,6 @@ use Rattle.std.specs.Prelude.{ℕ}
 use Rattle.chips.specs.declared.refusal.BlockRefusal.{BlockRefusal}
 use Rattle.chips.specs.declared.refusal.BlockRefusal.TheVariants.{WrongLength}
 use Rattle.round.specs.Refusals as round
-use Rattle.round.specs.declared.refusal.TakeRefusal.{TakeRefusal}
 use Rattle.carrier.specs.declared.refusal.ReaderRefusal.{ReaderRefusal}
 use Rattle.carrier.specs.declared.refusal.ReaderRefusal.TheVariants.{FrameNotTaken, BlockLength, Take}
 

@@ -1,5 +1,5 @@
 -- Exactly when received bits are refused as a frame.
-use Rattle.std.proofs.Common.{◌≡◌, ℕ, zero, suc, ◌+◌, ◌<◌, ◌≤◌, Bool, true, false, cond, eqb, leb, ◌↔◌, List, length, take, drop, Some, None, Ok, Err, Option, Result, sym, refl, ap, ◌∙◌, subst, arith}
+use Rattle.std.proofs.Common.{◌≡◌, ℕ, zero, suc, ◌+◌, ◌<◌, ◌≤◌, Bool, true, false, cond, eqb, leb, List, length, take, drop, Some, None, Ok, Err, Option, Result, sym, refl, ap, ◌∙◌, subst, arith}
 use Rattle.std.proofs.lemmas.List.{length-take-le, length-drop}
 use Rattle.std.proofs.lemmas.Bool.{eqb-true, eqb-false, leb-true, leb-false, le-leb, lt-leb, cond-true, cond-false}
 use Rattle.coding.specs.Bits.{are_bits, bits, number}
@@ -7,7 +7,7 @@ use Rattle.coding.specs.Distance.{distance}
 use Rattle.coding.specs.Crc.{crc8}
 use Rattle.coding.proofs.Words.{length_bits, bits_take, bits_drop}
 use Rattle.coding.proofs.Distances.{distance_triangle}
-use Rattle.bch.specs.Nearest.{nearest, Near, Finds}
+use Rattle.bch.specs.Nearest.{nearest, Near}
 use Rattle.bch.specs.Codec.{found, decoded}
 use Rattle.bch.specs.declared.word.Corrected.{Corrected}
 use Rattle.bch.specs.declared.word.CodeRefusal.{CodeRefusal}

@@ -1,5 +1,5 @@
 -- The two lines.
-use Rattle.std.proofs.Common.{◌≡◌, ℕ, ◌≤◌, refl, arith}
+use Rattle.std.proofs.Common.{refl, arith}
 use Rattle.line.specs.Line.{LineRules}
 use Rattle.line.specs.Stages.{cascade, scrambling, repetition, differential}
 use Rattle.line.specs.Lines.{standard, bench}
@@ -7,7 +7,6 @@ use Rattle.line.proofs.CascadeRules.{cascade_rules}
 use Rattle.line.proofs.DifferentialRules.{differential_rules}
 use Rattle.line.proofs.RepetitionRules.{repetition_rules}
 use Rattle.line.proofs.ScramblingRules.{scrambling_rules}
-use Rattle.carrier.specs.Guarantee.{Holds}
 use Rattle.carrier.proofs.Whole.{guarantee}
 use Rattle.carrier_laws.specs.Bounds.{WithinBound}
 

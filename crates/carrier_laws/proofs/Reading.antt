@@ -1,5 +1,5 @@
 -- What a reader keeps after any blocks, and when it closes a card.
-use Rattle.std.proofs.Common.{◌≡◌, ℕ, ◌+◌, ◌<◌, ◌≤◌, Bool, true, false, cond, eqb, List, [], ◌∷◌, ◌++◌, map, length, Ok, Err, Result, sym, refl, ap, ◌∙◌, subst, arith}
+use Rattle.std.proofs.Common.{◌≡◌, ℕ, ◌+◌, ◌<◌, ◌≤◌, Bool, true, false, eqb, List, [], ◌∷◌, ◌++◌, length, Ok, Err, Result, sym, refl, ap, ◌∙◌, arith}
 use Rattle.std.proofs.lemmas.List.{append_assoc, append-nil, length_push}
 use Rattle.std.proofs.lemmas.Bool.{eqb-true, eqb-false}
 use Rattle.card.specs.Card.{CardValue}
@@ -13,11 +13,11 @@ use Rattle.round.specs.Rounds.Answer.{counted, closed}
 use Rattle.round.specs.declared.refusal.TakeRefusal.{TakeRefusal}
 use Rattle.round_laws.specs.Closings.{EndsWithRound, BeginsRound}
 use Rattle.round_laws.proofs.ExactAnswers.{closings}
-use Rattle.carrier.specs.Receiving.{Receiving, Received, fresh_of, of_take, take_outcome, on_whole, on_bit, on_block, receiving_after}
+use Rattle.carrier.specs.Receiving.{Receiving, Received, of_take, take_outcome, on_whole, on_bit, on_block, receiving_after}
 use Rattle.carrier.specs.declared.refusal.ReaderRefusal.{ReaderRefusal}
 use Rattle.carrier.specs.declared.refusal.ReaderRefusal.TheVariants.{BlockLength}
 use Rattle.carrier.proofs.Heard.{hearing}
-use Rattle.carrier_laws.specs.Blocks.{heard_bits, Pieces, judged_take, judged_takes, Reads, ClosedOnlyByRounds}
+use Rattle.carrier_laws.specs.Blocks.{heard_bits, Pieces, judged_take, judged_takes, ClosedOnlyByRounds}
 
 -- what a whole take brings
 abbrev whole_take : Model → ℕ → Reading → List ℕ → Received

@@ -1,13 +1,12 @@
 -- A run with nothing damaged.
-use Rattle.std.proofs.Common.{◌≡◌, ℕ, zero, suc, ◌+◌, ◌*◌, ◌<◌, ◌≤◌, true, List, [], ◌∷◌, ◌++◌, map, length, Ok, sym, refl, ap, ◌∙◌, subst, ap₂, arith}
+use Rattle.std.proofs.Common.{◌≡◌, ℕ, zero, suc, ◌*◌, List, [], ◌∷◌, map, refl, arith}
 use Rattle.std.specs.List.{AllByRecursion}
 use Rattle.std.proofs.ByRecursion.{All-append}
 use Rattle.coding.specs.Bits.{group_bits}
-use Rattle.coding.specs.Distance.{distance}
 use Rattle.coding.proofs.Distances.{distance_self}
-use Rattle.card.specs.Card.{CardValue, Act, opened, card_after_all}
+use Rattle.card.specs.Card.{CardValue, card_after_all}
 use Rattle.content.specs.Sequence.{round_length}
-use Rattle.line.specs.Line.{Model, LineRules}
+use Rattle.line.specs.Line.{Model}
 use Rattle.chips.specs.Chips.{block, flipped, lost}
 use Rattle.chips.specs.Laws.{IsBlock}
 use Rattle.chips.proofs.Blocks.{block_is}
@@ -16,7 +15,7 @@ use Rattle.sender.specs.Takes.{line_bits, last_of, take_of, takes_of, in_order, 
 use Rattle.sender.proofs.Takes.{sends_takes}
 use Rattle.carrier.specs.Guarantee.{nth_take, Run}
 use Rattle.carrier.proofs.Cards.{eight}
-use Rattle.carrier_laws.specs.Runs.{Undamaged, RunsExist}
+use Rattle.carrier_laws.specs.Runs.{RunsExist}
 
 none_lost : (blocks : List (List ℕ)) → lost blocks blocks ≡ 0
 unfolding lost flipped

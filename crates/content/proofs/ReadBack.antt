@@ -1,5 +1,5 @@
 -- The laws of every card's sequence.
-use Rattle.std.proofs.Common.{◌≡◌, ℕ, zero, suc, ◌+◌, ◌*◌, ◌/◌, ◌%◌, ◌^◌, ◌<◌, ◌≤◌, Bool, true, false, cond, ◌&&◌, eqb, ltb, leb, List, [], ◌∷◌, ◌++◌, map, length, Some, None, Option, sym, refl, ap, ◌∙◌, ap₂, ⊎_elim, mul-le-mul_right, arith, lit<}
+use Rattle.std.proofs.Common.{◌≡◌, ℕ, suc, ◌+◌, ◌*◌, ◌/◌, ◌%◌, ◌^◌, ◌<◌, ◌≤◌, Bool, true, false, cond, ◌&&◌, eqb, ltb, leb, List, [], ◌∷◌, ◌++◌, map, length, Some, None, Option, sym, refl, ap, ◌∙◌, ap₂, ⊎_elim, mul-le-mul_right, arith, lit<}
 use Rattle.std.proofs.lemmas.List.{length-append, append-nil, map-append}
 use Rattle.std.proofs.lemmas.Bool.{and_parts, leb-true, and_from, and_left, and_right, le-leb, lt-leb, lt-ltb, cond-true, cond-false, cond_both, cases_eq, eq-eqb, ne_eqb}
 use Rattle.card.specs.Card.{CardValue, Lawful}
@@ -9,7 +9,7 @@ use Rattle.card.specs.Fields.{missing_or, is_coordinate}
 use Rattle.card.specs.declared.fields.Coordinate.{Coordinate}
 use Rattle.content.specs.Kind.{Kind, taken_apart, TakesApart}
 use Rattle.content.specs.Kinds.{latitude_kind, longitude_kind, telephone_kind, message_kind, telephone_lettering, message_lettering, laid_out}
-use Rattle.content.specs.Sequence.{numbered, set_of, marker, field_sets, evened, sequence, round_length}
+use Rattle.content.specs.Sequence.{numbered, set_of, marker, field_sets, evened, sequence}
 use Rattle.content.specs.Laws.{rises_from, words_under, field_from, HasRoom, SequenceLaws}
 use Rattle.content.specs.declared.entry.Content.{Content}
 use Rattle.coding.proofs.Groups.{length_groups, group_bits_bits, groups_below}

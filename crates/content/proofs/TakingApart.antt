@@ -1,5 +1,5 @@
 -- The one rule of every kind of field.
-use Rattle.std.proofs.Common.{◌≡◌, ℕ, zero, suc, ◌+◌, ◌-◌, ◌*◌, ◌/◌, ◌%◌, ◌^◌, ◌<◌, ◌≤◌, Bool, true, false, cond, ◌&&◌, eqb, leb, ◌↔◌, List, [], ◌∷◌, ◌++◌, map, length, get_or, replicate, Some, None, Ok, Err, Option, Result, sym, refl, ap, ◌∙◌, div-add-mod', arith, lit<}
+use Rattle.std.proofs.Common.{◌≡◌, ℕ, zero, suc, ◌+◌, ◌-◌, ◌*◌, ◌/◌, ◌%◌, ◌^◌, ◌<◌, ◌≤◌, Bool, true, false, cond, ◌&&◌, eqb, leb, List, [], ◌∷◌, ◌++◌, map, length, replicate, Some, None, Ok, Err, Option, Result, sym, refl, ap, ◌∙◌, div-add-mod', arith, lit<}
 use lib.Arith.{digits_div, digits_mod}
 use Rattle.std.specs.Result.{result_ok}
 use Rattle.std.specs.List.{AllByRecursion}
@@ -10,7 +10,7 @@ use Rattle.std.proofs.lemmas.Bool.Decides.{nat_tests}
 use Rattle.coding.specs.Bits.{group_bits, groups}
 use Rattle.coding.specs.Distance.{distance}
 use Rattle.coding.proofs.Distances.{distance_self, distance_zero}
-use Rattle.card.specs.Fields.{each, length_within, is_coordinate, is_latitude, is_longitude, is_symbol, extension_inside, is_telephone, is_printing, is_message}
+use Rattle.card.specs.Fields.{each, length_within, is_coordinate, is_symbol, extension_inside, is_telephone, is_printing, is_message}
 use Rattle.card.specs.Card.{on_ok}
 use Rattle.card.specs.declared.fields.Coordinate.{Coordinate}
 use Rattle.card.specs.declared.refusal.CardRefusal.{CardRefusal}

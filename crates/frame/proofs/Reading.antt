@@ -1,5 +1,5 @@
 -- Numbers, octets and halves read off bits.
-use Rattle.std.proofs.Common.{◌≡◌, ℕ, ◌+◌, ◌-◌, ◌%◌, ◌^◌, ◌<◌, ◌≤◌, Bool, true, false, cond, eqb, List, [], ◌∷◌, ◌++◌, length, take, drop, Some, None, Ok, Err, Option, Result, sym, refl, ap, ◌∙◌, ap₂, arith, pow_mono}
+use Rattle.std.proofs.Common.{◌≡◌, ℕ, ◌+◌, ◌-◌, ◌%◌, ◌^◌, ◌<◌, ◌≤◌, Bool, true, false, List, [], ◌∷◌, length, take, drop, Some, None, Ok, Err, Option, Result, sym, refl, ap, ◌∙◌, ap₂, arith, pow_mono}
 use Rattle.std.specs.Result.{result_ok}
 use Rattle.std.proofs.lemmas.List.{length-take, length-drop, drop-drop, take_all}
 use Rattle.std.proofs.lemmas.Bool.{cond-true, cond-false, eq-eqb, ne_eqb}
@@ -8,7 +8,7 @@ use Rattle.coding.specs.Crc.{crc8}
 use Rattle.coding.proofs.Words.{bits_drop, bits_take}
 use Rattle.coding.proofs.Numbers.{number_below}
 use Rattle.field.proofs.Differences.{word_bits}
-use Rattle.bch.specs.Nearest.{nearest, Near, Finds}
+use Rattle.bch.specs.Nearest.{nearest, Finds}
 use Rattle.bch.specs.Codec.{corrected, found, decoded}
 use Rattle.bch.specs.declared.word.Corrected.{Corrected}
 use Rattle.bch.specs.declared.word.CodeRefusal.{CodeRefusal}

@@ -1,5 +1,5 @@
 -- What is known after a line accepted a word, and what damage then does.
-use Rattle.std.proofs.Common.{◌≡◌, ℕ, ◌<◌, ◌≤◌, true, ◌&&◌, eqb, ltb, List, length, Ok, Result, sym, refl, ap, ◌∙◌, subst, le_trans}
+use Rattle.std.proofs.Common.{◌≡◌, ℕ, ◌<◌, ◌≤◌, true, ◌&&◌, eqb, ltb, List, length, Ok, Result, sym, refl, ◌∙◌, subst, le_trans}
 use Rattle.std.proofs.lemmas.Bool.{and_parts, ltb-true}
 use Rattle.coding.specs.Bits.{are_bits}
 use Rattle.coding.specs.Distance.{distance}

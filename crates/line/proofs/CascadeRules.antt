@@ -1,5 +1,5 @@
 -- A cascade of two lines that keep the rules keeps the rules.
-use Rattle.std.proofs.Common.{◌≡◌, ℕ, ◌-◌, ◌<◌, ◌≤◌, Bool, true, false, cond, eqb, List, ◌++◌, length, take, Some, None, Ok, Result, sym, refl, ap, ◌∙◌, le_trans, lit<}
+use Rattle.std.proofs.Common.{◌≡◌, ℕ, ◌-◌, ◌≤◌, Bool, true, false, cond, eqb, List, ◌++◌, length, take, Some, None, Ok, Result, sym, refl, ap, ◌∙◌, le_trans, lit<}
 use Rattle.std.proofs.lemmas.Bool.{and_parts, eqb-true}
 use Rattle.line.specs.Line.{Model, Word, LineRules}
 use Rattle.line.specs.declared.refusal.LineRefusal.{LineRefusal}

@@ -4,7 +4,7 @@ use Rattle.std.proofs.lemmas.Bool.{leb-true}
 use Rattle.coding.specs.Bits.{are_bits, plus}
 use Rattle.coding.specs.Distance.{distance}
 use Rattle.line.specs.Line.{LineRules}
-use Rattle.line.specs.Stages.{listed, running, differential}
+use Rattle.line.specs.Stages.{running, differential}
 use Rattle.line.proofs.Sums.{apart, total, total_le, total_plus, total_join, distance_total, bit_at, plus_bit, plus_apart}
 use Rattle.line.proofs.Sums.{bits_listed, length_listed, get_d_listed}
 

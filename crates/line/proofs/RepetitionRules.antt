@@ -1,12 +1,12 @@
 -- Repetition keeps the rules of a line.
-use Rattle.std.proofs.Common.{◌≡◌, ℕ, zero, suc, ◌+◌, ◌-◌, ◌*◌, ◌/◌, ◌<◌, ◌≤◌, true, List, ◌++◌, length, get_or, sym, refl, ap, ◌∙◌, ⊎_elim, arith, length-append}
+use Rattle.std.proofs.Common.{◌≡◌, ℕ, ◌+◌, ◌-◌, ◌*◌, ◌/◌, ◌<◌, ◌≤◌, true, List, ◌++◌, length, get_or, sym, refl, ap, ◌∙◌, ⊎_elim, arith, length-append}
 use Rattle.std.proofs.lemmas.List.{ext_get_or, get_or_append_left, get_or-append-add}
 use Rattle.std.proofs.lemmas.Bool.{leb-true, cases_lt}
 use Rattle.std.proofs.lemmas.Bool.Decides.{nat_tests}
 use Rattle.coding.specs.Bits.{are_bits}
 use Rattle.coding.specs.Distance.{distance}
 use Rattle.line.specs.Line.{LineRules}
-use Rattle.line.specs.Stages.{listed, vote, voted, repetition}
+use Rattle.line.specs.Stages.{vote, voted, repetition}
 use Rattle.line.proofs.Sums.{apart, total, total_le, total_plus, total_double, total_join, distance_total, bit_at, bits_append}
 use Rattle.line.proofs.Sums.{bits_listed, length_listed, get_d_listed}
 

@@ -1,5 +1,5 @@
 -- The scrambling sequence keeps its recurrence, and scrambling keeps the rules of a line.
-use Rattle.std.proofs.Common.{◌≡◌, ℕ, zero, suc, ◌+◌, ◌-◌, ◌%◌, ◌<◌, ◌≤◌, true, ltb, List, [], ◌∷◌, length, get_or, sym, refl, ap, ◌∙◌, suc-add, arith, lit<}
+use Rattle.std.proofs.Common.{◌≡◌, ℕ, zero, suc, ◌+◌, ◌-◌, ◌<◌, ◌≤◌, true, ltb, List, [], ◌∷◌, length, get_or, sym, refl, ap, ◌∙◌, suc-add, arith, lit<}
 use Rattle.std.proofs.lemmas.Bool.{leb-true, cond_both, lt-ltb, le-ltb}
 use Rattle.std.proofs.lemmas.Bool.Decides.{nat_tests}
 use Rattle.coding.specs.Bits.{are_bits, plus, bits}

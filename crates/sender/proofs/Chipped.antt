@@ -1,10 +1,10 @@
 -- On the standard's line the blocks of takes are the standard's signal.
-use Rattle.std.proofs.Common.{◌≡◌, ℕ, zero, suc, ◌+◌, ◌-◌, ◌*◌, ◌<◌, ◌≤◌, List, [], ◌∷◌, ◌++◌, map, length, get_or, take, drop, Ok, sym, refl, ap, ◌∙◌, ap₂, suc-mul, suc-add, zero-mul, arith}
+use Rattle.std.proofs.Common.{◌≡◌, ℕ, zero, suc, ◌+◌, ◌-◌, ◌*◌, ◌<◌, List, [], ◌∷◌, ◌++◌, map, length, get_or, take, drop, sym, refl, ap, ◌∙◌, ap₂, arith}
 use Rattle.std.proofs.lemmas.List.{take_at, drop_at, append_assoc, length-map, get_or-map, get_or_append_left, get_or-append-add}
 use Rattle.coding.specs.Bits.{plus, group_bits}
 use Rattle.coding.proofs.Groups.{group_bits_append}
 use Rattle.card.specs.Card.{CardValue}
-use Rattle.line.specs.Line.{Model, LineRules}
+use Rattle.line.specs.Line.{LineRules}
 use Rattle.line.specs.Stages.{cascade, scrambling, repetition, differential as differential_stage}
 use Rattle.line.specs.Lines.{standard}
 use Rattle.line.proofs.CascadeRules.{cascade_rules}
@@ -15,9 +15,8 @@ use Rattle.frame.specs.Frame.{frame_bits, frame_of}
 use Rattle.frame.proofs.Octets.{frame_length, frame_bits_lem}
 use Rattle.chips.specs.Chips.{chips, block}
 use Rattle.chips.proofs.Blocks.{block_chips}
-use Rattle.sender.specs.Sending.{Sending}
-use Rattle.sender.specs.Takes.{line_bits, last_of, take_of, takes_of, in_order, BetweenTakes, Sends}
-use Rattle.sender.specs.Signal.{scrambled, repeated, stream, differential, chipped, signal, without_openings, block_before, OfTheStandard, StandardSignal}
+use Rattle.sender.specs.Takes.{line_bits, last_of, take_of, takes_of, in_order}
+use Rattle.sender.specs.Signal.{scrambled, repeated, stream, differential, chipped, signal, without_openings, block_before, StandardSignal}
 use Rattle.sender.proofs.Takes.{last_more, line_word, last_bit, sends}
 use Rattle.sender.proofs.StandardLine.{standard_encode}
 

@@ -1,5 +1,5 @@
 -- What the standard's line makes of a frame, in the standard's own steps.
-use Rattle.std.proofs.Common.{◌≡◌, ℕ, zero, suc, ◌+◌, ◌-◌, ◌<◌, ◌≤◌, true, ◌⊎◌, List, [], ◌∷◌, ◌++◌, length, get_or, take, drop, sym, refl, ap, ◌∙◌, ap₂, inl, inr, ⊎_elim, add-one, arith}
+use Rattle.std.proofs.Common.{◌≡◌, ℕ, zero, suc, ◌+◌, ◌-◌, ◌<◌, ◌≤◌, true, List, [], ◌∷◌, length, get_or, take, drop, sym, refl, ap, ◌∙◌, ap₂, ⊎_elim, add-one, arith}
 use Rattle.std.proofs.lemmas.List.{same_lists, get_or_default, get_or-take, get_or-drop, get_or_append_left, get_or-append_right, length-append, length-take-le, length-drop}
 use Rattle.std.proofs.lemmas.Bool.{cases_lt}
 use Rattle.coding.specs.Bits.{are_bits, plus}
@@ -9,7 +9,7 @@ use Rattle.line.specs.Stages as stage
 use Rattle.line.specs.Lines.{standard}
 use Rattle.line.proofs.Sums.{length_listed, get_d_listed}
 use Rattle.line.proofs.ScramblingRules.{mask_low, mask_high}
-use Rattle.sender.specs.Signal.{output, generated, initial, added, scrambled, repeated, differential}
+use Rattle.sender.specs.Signal.{generated, initial, added, scrambled, repeated, differential}
 
 -- words that are as long and have the same bit at each place
 same_words : (xs ys : List ℕ) → length xs ≡ length ys → ((k : ℕ) → k < length xs → get_or xs k 0 ≡ get_or ys k 0) → xs ≡ ys

@@ -1,8 +1,7 @@
 -- From between takes on, calls write take after take.
-use Rattle.std.proofs.Common.{◌≡◌, ℕ, zero, suc, ◌+◌, ◌-◌, ◌*◌, ◌<◌, ◌≤◌, Bool, true, cond, eqb, leb, List, [], ◌∷◌, ◌++◌, map, length, get_or, replicate, Ok, Err, Result, sym, refl, ap, ◌∙◌, subst, ap₂, add-zero, add-suc, suc-mul, suc-add, zero-add, zero-mul, arith}
+use Rattle.std.proofs.Common.{◌≡◌, ℕ, zero, suc, ◌+◌, ◌-◌, ◌*◌, ◌<◌, ◌≤◌, true, List, [], ◌∷◌, ◌++◌, map, length, get_or, replicate, Ok, Result, sym, refl, ap, ◌∙◌, subst, ap₂, add-zero, suc-mul, suc-add, zero-add, zero-mul, arith}
 use Rattle.std.proofs.lemmas.List.{map-append, length-replicate}
 use Rattle.std.proofs.lemmas.Bool.{le-leb}
-use Rattle.coding.specs.Bits.{are_bits}
 use Rattle.coding.proofs.Words.{bit_at}
 use Rattle.card.specs.Card.{CardValue, on_ok}
 use Rattle.line.specs.Line.{Model, Word, LineRules}

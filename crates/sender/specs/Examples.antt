@@ -1,5 +1,5 @@
 -- Worked examples of every layer, from the identifier to the chips.
-use Rattle.std.specs.Prelude.{◌≡◌, ℕ, ◌+◌, List, [], ◌∷◌, map, take, Some, codes}
+use Rattle.std.specs.Prelude.{◌≡◌, ℕ, List, [], ◌∷◌, map, take, Some, codes}
 use Rattle.coding.specs.Bits.{bits, octet_bits}
 use Rattle.coding.specs.Crc.{crc8}
 use Rattle.card.specs.Card.{CardValue, coordinate, blank, with_latitude, with_longitude, with_telephone, with_message}

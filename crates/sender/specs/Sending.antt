@@ -1,5 +1,5 @@
 -- What a sender answers, writes and keeps, call by call.
-use Rattle.std.specs.Prelude.{ℕ, suc, Bool, cond, List, [], ◌∷◌, length, take, drop, replicate, Ok, Err, Result, ◌==◌, nat_le, nat_lt, slice_index}
+use Rattle.std.specs.Prelude.{ℕ, suc, cond, List, [], ◌∷◌, length, take, drop, replicate, Ok, Err, Result, ◌==◌, nat_le, nat_lt, slice_index}
 use Rattle.card.specs.Card.{CardValue, value_of, on_ok}
 use Rattle.line.specs.Line.{Model}
 use Rattle.line.specs.Calls.{encode_output}

@@ -1,4 +1,4 @@
-use Rattle.std.proofs.Common.{◌≡◌, ℕ, ◌<◌, true, false, length, drop, refl, arith, lit<, eqb-true}
+use Rattle.std.proofs.Common.{◌≡◌, ℕ, ◌<◌, true, length, drop, refl, arith, lit<, eqb-true}
 use borrow.Author.Tests.{both_ways, eqb-false}
 use Rattle.solver.proofs.Rows.{free_solved, free_none, pivot_solved, pivot_none, end_solved, end_none, small_set}
 use Rattle.solver.proofs.+solve_from.Goals as goal

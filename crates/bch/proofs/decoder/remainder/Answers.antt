@@ -2,7 +2,6 @@ use Rattle.std.proofs.Common.{◌≡◌, take, drop, ap, ◌∙◌, ap₂, arith
 use lib.Bits.{bit_xor}
 use Rattle.coding.specs.Bits.{number}
 use Rattle.coding.proofs.Words.{bits_take, bits_drop}
-use Rattle.field.specs.Code.{parity}
 use Rattle.bch.proofs.decoder.remainder.Goals as goal
 
 pub parity-requires : goal.parity-requires

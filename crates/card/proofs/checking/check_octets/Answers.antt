@@ -1,4 +1,4 @@
-use Rattle.std.proofs.Common.{◌≡◌, ℕ, Err, sym, ap, ◌∙◌, arith}
+use Rattle.std.proofs.Common.{ℕ, Err, sym, ap, ◌∙◌, arith}
 use Rattle.card.specs.Fields.{is_printing}
 use Rattle.card.specs.declared.refusal.CardRefusal.TheVariants.{MessageOctet}
 use Rattle.card.proofs.Scans.{passed_more, refused_at, accepted_all}

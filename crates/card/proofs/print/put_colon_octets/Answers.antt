@@ -1,4 +1,4 @@
-use Rattle.std.proofs.Common.{◌≡◌, ℕ, ◌+◌, ◌*◌, List, ◌++◌, length, get_or, take, codes, ap, ◌∙◌, arith}
+use Rattle.std.proofs.Common.{◌++◌, get_or, take, codes, ap, arith}
 use Rattle.std.proofs.lemmas.List.{take_all}
 use Rattle.card.specs.Print.{hex_octet, colon_octets}
 use Rattle.coding.proofs.Overwriting.{same_octets, then_written, written_none}

@@ -1,4 +1,4 @@
-use Rattle.std.proofs.Common.{◌≡◌, ◌+◌, ◌*◌, ◌≤◌, length, take}
+use Rattle.std.proofs.Common.{◌≡◌, ◌+◌, ◌*◌, take}
 use Rattle.coding.specs.Buffers.{Written}
 use Rattle.card.specs.Print.{colon_octets}
 use Rattle.card.proofs.print.put_colon_octets.Given as goal

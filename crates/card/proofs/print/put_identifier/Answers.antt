@@ -1,6 +1,6 @@
-use Rattle.std.proofs.Common.{◌≡◌, ℕ, ◌+◌, List, ◌++◌, length, codes, ap, ◌∙◌, ap₂, arith, rules}
+use Rattle.std.proofs.Common.{◌≡◌, ℕ, List, ◌++◌, codes, ap, ◌∙◌, ap₂, arith, rules}
 use Rattle.std.proofs.lemmas.List.{append_assoc}
-use Rattle.card.specs.Print.{hex_octet, colon_octets, identifier_line}
+use Rattle.card.specs.Print.{hex_octet, colon_octets}
 use Rattle.coding.proofs.Overwriting.{same_octets, then_written}
 use Rattle.card.proofs.print.put_identifier.Goals as goal
 

@@ -1,5 +1,5 @@
-use Rattle.std.proofs.Common.{◌≡◌, ℕ, ◌+◌, sym, refl, ap, ◌∙◌, subst, arith}
-use Rattle.sender.specs.Sending.{Sending, sending_of, next_sending}
+use Rattle.std.proofs.Common.{refl, ap, ◌∙◌, subst, arith}
+use Rattle.sender.specs.Sending.{sending_of, next_sending}
 use Rattle.sender.specs.Takes.{after_calls}
 use Rattle.carrier.specs.Receiving.{receiving_of, on_block}
 use Rattle.carrier.specs.Passing.{OneMore}

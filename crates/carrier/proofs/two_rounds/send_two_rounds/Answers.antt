@@ -1,4 +1,4 @@
-use Rattle.std.proofs.Common.{◌≡◌, ℕ, ◌+◌, ◌*◌, ◌<◌, ◌≤◌, cond, leb, length, Ok, Err, sym, refl, ap, ◌∙◌, subst, ap₂, mul-le-mul, arith, rules}
+use Rattle.std.proofs.Common.{◌≡◌, ℕ, ◌+◌, ◌*◌, ◌≤◌, cond, leb, Ok, Err, sym, ap, ◌∙◌, subst, ap₂, mul-le-mul, arith}
 use Rattle.std.proofs.lemmas.Result.{err_from_is_err_and}
 use Rattle.card.specs.Card.{value_of, on_ok}
 use Rattle.content.specs.Sequence.{round_length}

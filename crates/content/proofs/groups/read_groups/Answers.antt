@@ -1,4 +1,4 @@
-use Rattle.std.proofs.Common.{◌≡◌, ℕ, ◌+◌, ◌-◌, ◌*◌, ◌%◌, ◌^◌, ◌<◌, ◌≤◌, ◌≢◌, List, length, get_or, take, drop, sym, refl, ap, ◌∙◌, ap₂, suc-mul, add-one, arith, below_more}
+use Rattle.std.proofs.Common.{◌≡◌, ℕ, ◌+◌, ◌-◌, ◌*◌, ◌%◌, ◌^◌, ◌<◌, ◌≢◌, List, length, get_or, take, drop, sym, ap, ◌∙◌, ap₂, suc-mul, add-one, arith, below_more}
 use Rattle.std.proofs.lemmas.List.{ext_get_or, get_or-set_same, get_or-set_other}
 use Rattle.coding.specs.Bits.{number, groups}
 use Rattle.coding.proofs.Words.{bits_drop}

@@ -1,4 +1,4 @@
-use Rattle.std.proofs.Common.{◌≡◌, ap, ◌∙◌, arith, lit≤}
+use Rattle.std.proofs.Common.{ap, ◌∙◌, arith, lit≤}
 use Rattle.coding.specs.Bits.{are_bits}
 use Rattle.coding.proofs.Groups.{group_bits_bits}
 use Rattle.content.proofs.letters.telephone_words.Goals as goal

@@ -1,4 +1,4 @@
-use Rattle.std.proofs.Common.{◌≡◌, drop, arith}
+use Rattle.std.proofs.Common.{drop, arith}
 use Rattle.coding.proofs.Words.{bits_drop}
 use Rattle.frame.proofs.Reading.{small_number, part_number}
 use Rattle.frame.proofs.judging.small_at.Goals as goal

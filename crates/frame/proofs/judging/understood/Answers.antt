@@ -1,4 +1,4 @@
-use Rattle.std.proofs.Common.{◌≡◌, ℕ, List, [], ◌∷◌, sym, ◌∙◌, lit≤}
+use Rattle.std.proofs.Common.{◌≡◌, [], ◌∷◌, sym, ◌∙◌, lit≤}
 use Rattle.coding.specs.Bits.{groups}
 use Rattle.frame.proofs.Reading.{part_number, four_octets}
 use Rattle.frame.proofs.judging.understood.Goals as goal

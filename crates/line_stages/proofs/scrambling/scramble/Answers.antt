@@ -1,8 +1,8 @@
-use Rattle.std.proofs.Common.{◌≡◌, ℕ, ◌+◌, ◌-◌, ◌<◌, ◌≤◌, List, length, get_or, sym, ap, ◌∙◌, arith}
+use Rattle.std.proofs.Common.{ℕ, ◌+◌, ◌-◌, ◌<◌, ◌≤◌, length, get_or, sym, ap, ◌∙◌, arith}
 use Rattle.std.proofs.lemmas.List.FromFn.{fill_by_all}
 use Rattle.std.proofs.lemmas.Bool.{leb-true, leb-false}
 use Rattle.coding.specs.Bits.{plus}
-use Rattle.line.specs.Stages.{mask, sequence}
+use Rattle.line.specs.Stages.{mask}
 use Rattle.line.proofs.Sums.{bit_at, fill_step, plus_bit}
 use Rattle.line.proofs.ScramblingRules.{window, window_start, window_step, window_next, mask_low, mask_high, sequence_bit}
 use Rattle.line_stages.proofs.scrambling.scramble.Goals as goal

@@ -1,4 +1,4 @@
-use Rattle.std.proofs.Common.{◌≡◌, ℕ, ◌-◌, ◌≤◌, List, length, take, replicate, ap, ◌∙◌, arith, rules}
+use Rattle.std.proofs.Common.{◌≡◌, ℕ, ◌-◌, length, take, replicate, ap, ◌∙◌, arith, rules}
 use Rattle.std.proofs.lemmas.List.{take_at, take-replicate}
 use Rattle.line.specs.Calls.{encode_output}
 use Rattle.sender.proofs.sending.line_bits.Goals as goal

@@ -1,8 +1,7 @@
-use Rattle.std.proofs.Common.{◌≡◌, ℕ, ◌≤◌, List, ◌++◌, length, Ok, Err, sym, ap, ◌∙◌, append_assoc, zero-add, arith}
-use Rattle.std.specs.Option.{option_map}
+use Rattle.std.proofs.Common.{◌≡◌, ℕ, ◌≤◌, List, ◌++◌, length, Ok, Err, ap, ◌∙◌, append_assoc, zero-add, arith}
 use Rattle.std.proofs.lemmas.Bool.{cond_above}
 use Rattle.coding.specs.Buffers.{Written, overwritten}
-use Rattle.card.specs.Card.{CardValue, value_of, symbols_of, octets_of}
+use Rattle.card.specs.Card.{CardValue, value_of}
 use Rattle.card.specs.Print.{identifier_line, latitude_line, longitude_line, telephone_line, message_line, card_text, print_answer, printed}
 use Rattle.card.specs.declared.refusal.PrintRefusal.TheVariants.{ShortBuffer}
 use Rattle.coding.proofs.Overwriting.{same_octets, then_written}

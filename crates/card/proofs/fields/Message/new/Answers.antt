@@ -1,4 +1,4 @@
-use Rattle.std.proofs.Common.{◌≡◌, true, ◌&&◌, take, Ok, sym, ap, ◌∙◌, arith}
+use Rattle.std.proofs.Common.{◌≡◌, take, Ok, sym, ap, ◌∙◌, arith}
 use Rattle.card.specs.Fields.{is_message, each, is_printing}
 use Rattle.card.specs.Card.{message_answer, on_ok}
 use Rattle.card.proofs.Accepted.{accepted_message, not_longer}

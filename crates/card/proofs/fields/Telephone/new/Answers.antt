@@ -1,4 +1,4 @@
-use Rattle.std.proofs.Common.{◌≡◌, true, ◌&&◌, take, Ok, sym, ap, ◌∙◌, arith}
+use Rattle.std.proofs.Common.{◌≡◌, ◌&&◌, take, Ok, sym, ap, ◌∙◌, arith}
 use Rattle.card.specs.Fields.{is_telephone, each, is_symbol, extension_inside}
 use Rattle.card.specs.Card.{telephone_answer, on_ok}
 use Rattle.card.proofs.Accepted.{accepted_telephone, not_longer}

@@ -1,4 +1,4 @@
-use Rattle.std.proofs.Common.{◌≡◌, ℕ, ◌+◌, ◌*◌, ◌/◌, ◌%◌, ◌<◌, List, length, get_or, sym, refl, ap, ◌∙◌, ap₂, mod-lt, arith}
+use Rattle.std.proofs.Common.{◌≡◌, ℕ, ◌+◌, ◌*◌, ◌%◌, ◌<◌, List, length, get_or, ap, ◌∙◌, ap₂, mod-lt, arith}
 use Rattle.std.proofs.lemmas.List.{get_or_default}
 use Rattle.card.specs.Card.{value_of}
 use Rattle.content.specs.Sequence.{marker, sequence, round_length}

@@ -1,8 +1,8 @@
-use Rattle.std.proofs.Common.{◌≡◌, ℕ, ◌+◌, ◌<◌, true, leb, length, get_or, sym, ap, ◌∙◌, add-one, arith, length-set}
+use Rattle.std.proofs.Common.{◌≡◌, ◌+◌, ◌<◌, true, leb, length, sym, ◌∙◌, add-one, arith, length-set}
 use Rattle.std.proofs.lemmas.List.FromFn.{fill_by_all}
 use Rattle.std.proofs.lemmas.List.Edits.{fill_by_more}
 use Rattle.std.proofs.lemmas.Bool.{le-leb}
-use Rattle.coding.specs.Bits.{are_bits, plus}
+use Rattle.coding.specs.Bits.{are_bits}
 use Rattle.line.specs.Stages.{differential, running}
 use Rattle.line.proofs.Answers.{encode_ok, encode_written}
 use Rattle.line.proofs.DifferentialRules.{running_bit}

@@ -1,4 +1,4 @@
-use Rattle.std.proofs.Common.{◌≡◌, ℕ, ◌*◌, ◌<◌, true, leb, length, sym, arith}
+use Rattle.std.proofs.Common.{◌≡◌, ◌*◌, ◌<◌, true, leb, length, sym, arith}
 use Rattle.std.proofs.lemmas.Bool.{le-leb}
 use Rattle.coding.specs.Bits.{are_bits}
 use Rattle.line.specs.Stages.{repetition}

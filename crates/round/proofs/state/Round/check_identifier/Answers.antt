@@ -6,7 +6,6 @@ use Rattle.std.proofs.lemmas.Result.{err_from_is_err_and}
 use Rattle.std.proofs.lemmas.Bool.{not-true, not-false, cond-true, cond-false}
 use Rattle.std.proofs.lemmas.Bool.Decides.{not_from_Decides, Decides-eqb}
 use Rattle.card.specs.Card.{CardValue, value_of, on_ok}
-use Rattle.card.specs.declared.identifier.Identifier.{Identifier}
 use Rattle.round.specs.Rounds.{agrees, round_card}
 use Rattle.round.specs.Views.{state_of}
 use Rattle.round.specs.declared.refusal.TakeRefusal.TheVariants as refusal

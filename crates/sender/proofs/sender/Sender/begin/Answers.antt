@@ -1,7 +1,6 @@
 use Rattle.std.proofs.Common.{◌≡◌, ℕ, List, take, replicate, refl, ap, ◌∙◌}
 use Rattle.line.specs.Calls.{encode_output}
 use Rattle.frame.specs.Frame.{frame_bits, frame_of}
-use Rattle.frame.specs.declared.carried.Frame.{Frame}
 use Rattle.sender.specs.Sending.{sending_of, with_left, begun}
 use Rattle.sender.proofs.sender.Sender.begin.Goals as goal
 
