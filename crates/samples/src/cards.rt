@@ -167,7 +167,7 @@ fn telephone_limits(rt: HostRuntime) -> Result<(), Fail> {
     }
     match card.telephone() {
         Some(telephone) => {
-            assert!(rt; telephone.symbols() == b"1234567890123456e8");
+            assert!(rt; telephone.symbols() == b"1234567890123456e8".as_slice());
             Ok(())
         },
         None => Err(Fail::new("the telephone is missing")),
@@ -192,7 +192,7 @@ fn message_limits(rt: HostRuntime) -> Result<(), Fail> {
     assert_eq!(rt; answered(card.enter_message(&[0x41, 0x80])), (10, 2));
     match card.message() {
         Some(message) => {
-            assert!(rt; message.octets() == b"123456789012345678901234");
+            assert!(rt; message.octets() == b"123456789012345678901234".as_slice());
             Ok(())
         },
         None => Err(Fail::new("the message is missing")),

@@ -72,7 +72,7 @@ fn telephone_both_ways(rt: HostRuntime) -> Result<(), Fail> {
     let words = telephone_words(&Telephone::new(b"14803332200e1835")?);
     assert!(rt; words == [0x148033, 0x32200D, 0x1835FF]);
     match telephone_of(&words) {
-        Some(telephone) => assert!(rt; telephone.symbols() == b"14803332200e1835"),
+        Some(telephone) => assert!(rt; telephone.symbols() == b"14803332200e1835".as_slice()),
         None => return Err(Fail::new("no telephone")),
     }
     // padding alone, padding in the middle, a group that is no symbol, e first, e twice, more than 24 bits
@@ -95,7 +95,7 @@ fn message_both_ways(rt: HostRuntime) -> Result<(), Fail> {
     let words = message_words(&Message::new(b"HELLO")?);
     assert!(rt; words == [0x911664, 0xC9E000, 0, 0, 0, 0, 0]);
     match message_of(&words) {
-        Some(message) => assert!(rt; message.octets() == b"HELLO"),
+        Some(message) => assert!(rt; message.octets() == b"HELLO".as_slice()),
         None => return Err(Fail::new("no message")),
     }
     // zeros alone, a character after the padding, a control character, more than 24 bits

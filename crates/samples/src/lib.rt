@@ -5,7 +5,7 @@
 #[cfg(test)]
 mod cards;
 #[cfg(test)]
-mod chips;
+mod chip_blocks;
 #[cfg(test)]
 mod contents;
 #[cfg(test)]

@@ -5,7 +5,7 @@
 #![tactic(auto)]
 
 mod drawing;
-mod lines;
+mod over_lines;
 mod sequence;
 
 use std::io;
@@ -14,5 +14,5 @@ fn main(rt: HostRuntime) -> io::Result<()> {
     if let Some(card) = drawing::run(&rt)? {
         sequence::run(&rt, &card)?;
     }
-    lines::run(&rt)
+    over_lines::run(&rt)
 }

@@ -1,7 +1,7 @@
 use Rattle.std.proofs.Common.{replicate}
 use Rattle.line.proofs.Accepted.{line, damaged}
 use Rattle.line.proofs.Answers.{decode_done}
-use Rattle.trial.proofs.lines.errors_left.Goals as goal
+use Rattle.trial.proofs.over_lines.errors_left.Goals as goal
 
 pub flip-requires : goal.flip-requires
 flip-requires g c =

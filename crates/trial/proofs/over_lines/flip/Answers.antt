@@ -3,8 +3,8 @@ use lib.Bits.{bit_xor, xor_lt}
 use Rattle.coding.proofs.Distances.{distance_self}
 use Rattle.line.proofs.Distances.{distance_set}
 use Rattle.line.proofs.Sums.{bit_at, bits_set}
-use Rattle.trial.proofs.lines.flip.Goals as goal
-use Rattle.trial.proofs.lines.flip.Goals.{then-place-bits, else-place-bits}
+use Rattle.trial.proofs.over_lines.flip.Goals as goal
+use Rattle.trial.proofs.over_lines.flip.Goals.{then-place-bits, else-place-bits}
 
 pub loop-place-init : goal.loop-place-init
 loop-place-init c = (c.requires, omega (arith, distance_self c.args.bits.now))
