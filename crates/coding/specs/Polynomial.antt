@@ -1,5 +1,5 @@
 -- Polynomials over the field of two elements. A number stands for the polynomial in which x^i has the number's bit i as
--- its coefficient, so that adding is bitXor and multiplying by x is doubling.
+-- its coefficient, so that adding is `bit_xor` and multiplying by x is doubling.
 use Rattle.std.specs.Prelude.{◌≡◌, ℕ, zero, suc, ◌*◌, ◌/◌, ◌%◌, ◌^◌, ◌<◌, ◌≤◌, true, cond, List, [], ◌∷◌, length, bit_xor, nat_lt}
 use Rattle.coding.specs.Bits.{are_bits, number}
 

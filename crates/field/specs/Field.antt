@@ -1,5 +1,5 @@
 -- GF(128): the polynomials in c of a degree below 7 over the field of two elements, where c^7 = c^6 + 1, so that c is a
--- root of 1 + x^6 + x^7. An element is a number below 128, whose bit i is the coefficient of c^i; adding is bitXor. A
+-- root of 1 + x^6 + x^7. An element is a number below 128, whose bit i is the coefficient of c^i; adding is `bit_xor`. A
 -- number from 128 on stands for its remainder by 128, so that products are of any two numbers.
 use Rattle.std.specs.Prelude.{◌≡◌, ℕ, zero, suc, ◌*◌, ◌/◌, ◌%◌, ◌<◌, ◌⊎◌, List, [], ◌∷◌, length, bit_xor}
 
