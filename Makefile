@@ -12,7 +12,8 @@ $(PROGRAMS): kit
 	@echo "Proving and building $@; the log is target/run-$@.log."
 	@cd crates/$@ && rt run 2> ../../target/run-$@.log || { tail -n 30 ../../target/run-$@.log; exit 1; }
 
-# Proves every crate from nothing, tries the must-fail edits, and runs the programs and the tests.
+# Proves every crate, tries the must-fail edits, and runs the programs and the tests. What a run passed is kept on its machine, and
+# a later run there proves and tries again only what changed.
 test: kit
 	@tools/gate
 
