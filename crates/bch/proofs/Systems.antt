@@ -1,14 +1,13 @@
 -- The key equations as linear equations, and what their solution does to the received word.
-use Rattle.std.proofs.Common.{◌≡◌, ℕ, zero, suc, ◌+◌, ◌-◌, ◌%◌, ◌<◌, ◌≤◌, min, Bool, true, cond, eqb, List, [], ◌∷◌, length, get_or, take, drop, set, sym, ap, ◌∙◌, subst, ap₂, ⊎_elim, add-zero, add-suc, mod-eq_of_lt, suc-add, eq-or-lt_of_le, add-one, arith, lit<, length-drop, length-take, get_or-set_other, get_or-set_same}
-use lib.Bits.{bit_xor, xor_assoc, xor_comm, xor_zero_r}
+use Rattle.std.proofs.Common.{◌≡◌, ℕ, suc, ◌+◌, ◌-◌, ◌%◌, ◌<◌, ◌≤◌, min, Bool, true, cond, eqb, List, [], ◌∷◌, length, get_or, take, drop, set, sym, refl, ap, ◌∙◌, subst, ap₂, ⊎_elim, add-zero, add-suc, mod-eq_of_lt, suc-add, eq-or-lt_of_le, arith, length-drop, length-take, get_or-set_other, get_or-set_same}
+use lib.Bits.{bit_xor, xor_assoc, xor_comm}
 use Rattle.std.proofs.lemmas.Bool.{cases_lt}
-use Rattle.std.proofs.lemmas.List.{take_more, drop_all}
+use Rattle.std.proofs.lemmas.List.{drop_all}
 use Rattle.coding.specs.Bits.{are_bits}
 use Rattle.coding.specs.Distance.{distance}
-use Rattle.field.specs.Field.{by_c, mul, exp, power, value}
+use Rattle.field.specs.Field.{by_c, mul, exp, value}
 use Rattle.field.specs.Locator.{syndrome, recurrence, KeyEquations, is_root, flipped, Received}
 use Rattle.field.proofs.Elements.{comm, one_mul, zero_l, exp_small, exp_next, exp_nought}
-use Rattle.field.proofs.Roots.{value_push}
 use Rattle.field.proofs.Locators.{value_small}
 use Rattle.field.proofs.Corrections.{solvable, corrects}
 use Rattle.solver.specs.Linear.{side_from, side, Solve}
@@ -50,6 +49,13 @@ row_recurrence s f n v row ls ll E h small =
     ∙ xor_comm (recurrence f n ls) (f (n + v))
     ∙ ap (λ (z : ℕ). bit_xor z (recurrence f n ls)) (sym (ap (λ (m : ℕ). mul 1 (f (n + m))) ll ∙ one_mul (f (n + v)) small))
 
+-- the recurrence of the later syndromes
+recurrence_later : (f : ℕ → ℕ) (n : ℕ) (ls : List ℕ) → recurrence (λ (k : ℕ). f (suc k)) n ls ≡ recurrence f (suc n) ls
+unfolding recurrence
+recurrence_later f n [] = refl
+recurrence_later f n (l ∷ ls) =
+    ap₂ (λ (k r : ℕ). bit_xor (mul l (f k)) r) (sym (suc-add n (length ls))) (recurrence_later f n ls)
+
 -- an equation of zeros is always solved
 side_zero : (row : List ℕ) → ((k : ℕ) → get_or row k 0 ≡ 0) → (col : ℕ) (ys : List ℕ) → side_from col row ys ≡ 0
 unfolding side_from
@@ -63,12 +69,12 @@ pub record Posed (w s : List ℕ) (v : ℕ) (rows : List (List ℕ)) : Type 0 wh
   pub few : v ≤ 6
   pub syndromes : Syndromes (leftover w) s
   pub six : length rows ≡ 6
-  pub equations : (i : ℕ) → i < v → Equation s (i + 1) v (get_or rows i [])
+  pub equations : (i : ℕ) → i < v → Equation s i v (get_or rows i [])
   pub rest : (i : ℕ) → v ≤ i → (k : ℕ) → get_or (get_or rows i []) k 0 ≡ 0
 
 module _ (w s : List ℕ) (v : ℕ) (rows : List (List ℕ)) (P : Posed w s v rows) where
-  syndrome_at : (k : ℕ) → 0 < k → k < 13 → get_or s k 0 ≡ syndrome w k
-  syndrome_at k p h = P.syndromes k p h ∙ syndrome_leftover w P.long P.bit k p h
+  syndrome_at : (k : ℕ) → k < 12 → get_or s k 0 ≡ syndrome w (suc k)
+  syndrome_at k h = P.syndromes k h ∙ syndrome_leftover w P.long P.bit (suc k) (omega arith) (omega arith)
 
   syndrome_small : (k : ℕ) → syndrome w k < 128
   unfolding syndrome
@@ -76,9 +82,9 @@ module _ (w s : List ℕ) (v : ℕ) (rows : List (List ℕ)) (P : Posed w s v ro
 
   row_at : (ls : List ℕ) → length ls ≡ v → (i : ℕ) → i < v → side (get_or rows i []) ls ≡ recurrence (syndrome w) (suc i) (1 ∷ ls)
   row_at ls ll i h =
-      row_recurrence s (syndrome w) (i + 1) v (get_or rows i []) ls ll (P.equations i h)
-      (λ m a b. syndrome_at m (omega arith) (omega (arith, P.few))) (syndrome_small (i + 1 + v))
-      ∙ ap (λ (n : ℕ). recurrence (syndrome w) n (1 ∷ ls)) (add-one i)
+      row_recurrence s (λ (k : ℕ). syndrome w (suc k)) i v (get_or rows i []) ls ll (P.equations i h)
+      (λ m a b. syndrome_at m (omega (arith, P.few))) (syndrome_small (suc (i + v)))
+      ∙ recurrence_later (syndrome w) i (1 ∷ ls)
 
   -- a solution of the rows solves the key equations, and the other way round
   solution_key : (ls : List ℕ) → length ls ≡ v → Solve rows ls → KeyEquations w v ls
@@ -116,46 +122,11 @@ module _ {X : Type 0} (d : X) (P : ℕ → X → Type 0) where
       (λ n. subst (P k) (sym (get_or-set_other xs i k y d (λ e. omega arith))) (below k n))
       (eq-or-lt_of_le m)
 
-  pub set_above : (xs : List X) (i : ℕ) (y : X) → ((k : ℕ) → i ≤ k → P k (get_or xs k d)) → (k : ℕ) → i + 1 ≤ k → P k (get_or (set xs i y) k d)
-  set_above xs i y above k l = subst (P k) (sym (get_or-set_other xs i k y d (λ e. omega arith))) (above k (omega arith))
-
-pub coefficient_more : (s : List ℕ) (n v : ℕ) (row : List ℕ) (j : ℕ) → j < length row
-    → ((k : ℕ) → k < j → get_or row k 0 ≡ get_or s (n + (v - suc k)) 0)
-    → (k : ℕ) → k < j + 1 → get_or (set row j (get_or s (n + (v - (j + 1))) 0)) k 0 ≡ get_or s (n + (v - suc k)) 0
-coefficient_more s n v row j h f =
-    set_below 0 (λ k y. y ≡ get_or s (n + (v - suc k)) 0) row j (get_or s (n + (v - (j + 1))) 0) h f
-    (ap (λ (m : ℕ). get_or s (n + (v - m)) 0) (add-one j))
-
-pub equation_made : (s : List ℕ) (n v : ℕ) (row : List ℕ) → v < length row → ((k : ℕ) → k < v → get_or row k 0 ≡ get_or s (n + (v - suc k)) 0)
-    → Equation s n v (set row v (get_or s (n + v) 0))
-equation_made s n v row h f =
-    record {
-      coefficient = λ j l. get_or-set_other row v j (get_or s (n + v) 0) 0 (λ e. omega arith) ∙ f j l;
-      constant = get_or-set_same row v (get_or s (n + v) 0) 0 h;
-    }
-
--- ---- powers of c, one by one
-pub power_more : (n x y : ℕ) → 0 < n → x ≡ exp (n - 1) → y ≡ by_c x → y ≡ exp n
-power_more zero x y h e f = absurd (omega arith)
-power_more (suc n) x y h e f = let d : suc n - 1 ≡ n = omega arith in f ∙ ap by_c (e ∙ ap exp d) ∙ exp_next n
-
 pub power_first : 1 ≡ exp 0
 power_first = sym exp_nought
 
 pub power_below : (x n : ℕ) → x ≡ exp n → x < 128
 power_below x n e = subst (λ (z : ℕ). z < 128) (sym e) (exp_small n)
-
--- ---- the locator's value, by Horner's rule
-pub locator_none : (x : ℕ) → 1 ≡ value x (1 ∷ [])
-unfolding value power
-locator_none x = sym (xor_zero_r (mul 1 1) ∙ one_mul 1 (lit< tt))
-
-pub locator_more : (x : ℕ) (ls : List ℕ) (j s p : ℕ) → x < 128 → j < length ls → get_or ls j 0 < 128 → s ≡ value x (1 ∷ take j ls)
-    → p ≡ mul x s
-    → bit_xor p (get_or ls j 0) ≡ value x (1 ∷ take (j + 1) ls)
-locator_more x ls j s p hx h hl e f =
-    ap (λ (z : ℕ). bit_xor z (get_or ls j 0)) (f ∙ ap (mul x) e) ∙ sym (value_push x (1 ∷ take j ls) (get_or ls j 0) hx hl)
-    ∙ ap (λ (q : List ℕ). value x (1 ∷ q)) (sym (take_more ls j 0 h))
 
 -- ---- flipping, from the last bit on
 pub flipped_none : (f : ℕ → Bool) (w out : List ℕ) → length w ≡ 111 → length out ≡ 111 → drop 111 out ≡ flipped f (drop 111 w)
@@ -178,6 +149,3 @@ pub place_more : (i x y : ℕ) → 0 < i → i ≤ 111 → x ≡ exp (111 - i) �
 place_more i x y p h e f =
     let d : 111 - (i - 1) ≡ suc (111 - i) = omega arith in
     f ∙ ap by_c e ∙ exp_next (111 - i) ∙ ap exp (sym d)
-
-pub flipped_all : (f : ℕ → Bool) (w out : List ℕ) (i : ℕ) → i ≡ 0 → drop i out ≡ flipped f (drop i w) → out ≡ flipped f w
-flipped_all f w out i z e = ap (λ (k : ℕ). drop k out) (sym z) ∙ e ∙ ap (λ (k : ℕ). flipped f (drop k w)) z

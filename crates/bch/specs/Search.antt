@@ -12,11 +12,12 @@ use Rattle.bch.specs.Nearest.{Near}
 abbrev pub leftover : List ℕ → ℕ
 leftover w = bit_xor (parity (take 69 w)) (number (drop 69 w))
 
--- s holds at k the value of the remainder at c^k, for k = 1 to 12
+-- s holds the values of the remainder at c to c^12
 abbrev pub Syndromes : ℕ → List ℕ → Type 0
-Syndromes r s = (k : ℕ) → 0 < k → k < 13 → slice_index s k ≡ value (exp k) (bits 42 r)
+Syndromes r s = (k : ℕ) → k < 12 → slice_index s k ≡ value (exp (suc k)) (bits 42 r)
 
--- the row of the key equation of s(n) to s(n + v): its coefficients are s(n + v - 1) down to s(n), and s(n + v) is the constant
+-- the row of the key equation of the syndromes at the places n to n + v: its coefficients are those at n + v - 1 down to n,
+-- and that at n + v is the constant
 pub record Equation (s : List ℕ) (n v : ℕ) (row : List ℕ) : Type 0 where
   pub coefficient : (j : ℕ) → j < v → slice_index row j ≡ slice_index s (n + (v - suc j))
   pub constant : slice_index_or row v 0 ≡ slice_index s (n + v)

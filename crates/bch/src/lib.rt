@@ -15,37 +15,22 @@ pub use word::{CodeRefusal, Corrected};
 #[cfg(test)]
 mod tests {
     use super::*;
+    use std::array;
     use std::test::Fail;
 
     // The 69 low bits of a number.
     fn data_of(number: u128) -> [u8; 69] {
-        let mut data = [0; 69];
-        let mut rest = number;
-        for i in (0..69usize).rev() {
-            data[i] = (rest % 2) as u8;
-            rest /= 2;
-        }
-        data
+        array::from_fn(|i| ((number >> (68 - i)) % 2) as u8)
     }
 
     // A word of 111 bits, the low bits of a number flipped in it.
     fn added(word: &[u8; 111], number: u128) -> [u8; 111] {
-        let mut out = *word;
-        let mut rest = number;
-        for i in (0..111usize).rev() {
-            out[i] ^= (rest % 2) as u8;
-            rest /= 2;
-        }
-        out
+        array::from_fn(|i| word[i] ^ ((number >> (110 - i)) % 2) as u8)
     }
 
     // The errors at some powers of x.
     fn errors(powers: &[u32]) -> u128 {
-        let mut sum = 0;
-        for p in powers {
-            sum ^= 1u128 << (*p % 111);
-        }
-        sum
+        powers.iter().fold(0, |sum, p| sum ^ (1 << (*p % 111)))
     }
 
     #[test]

@@ -1,4 +1,4 @@
-pub mod Scans
 pub mod Accepted
-pub mod Hexadecimal
 pub mod Lives
+pub mod Scans
+pub mod Lengths

@@ -1,68 +1,38 @@
--- A scan from the front of a list, by what is left of it: counting, and the first number that fails a test.
-use Rattle.std.proofs.Common.{◌≡◌, ℕ, suc, ◌+◌, ◌<◌, ◌≤◌, Bool, true, false, cond, ◌&&◌, eqb, List, length, get_or, drop, Ok, Err, Result, sym, refl, ap, ◌∙◌, arith}
-use Rattle.std.proofs.lemmas.Bool.{eq-eqb, ne_eqb}
-use Rattle.std.proofs.lemmas.List.{at_drop_more, at_drop_all}
-use Rattle.card.specs.Fields.{each, count}
+-- A scan for the first number that fails a test.
+use Rattle.std.proofs.Common.{◌≡◌, ℕ, ◌+◌, ◌<◌, ◌≤◌, Bool, true, false, cond, not, ltb, List, [], ◌∷◌, length, get_or, Some, None, Ok, Err, Option, Result, refl, arith}
+use Rattle.std.specs.List.{position, position_or_len, prefix_len}
+use Rattle.std.proofs.lemmas.List.Sums.{prefix_len_passes, prefix_len_stops}
 use Rattle.card.specs.Card.{first_failing, unless}
+use Rattle.card.specs.Fields.{each}
 use Rattle.card.specs.declared.refusal.CardRefusal.{CardRefusal}
 
-count_more : (s : ℕ) (xs : List ℕ) (i : ℕ) → i < length xs → count s (drop i xs) ≡ cond (eqb (get_or xs i 0) s) 1 0 + count s (drop (i + 1) xs)
-unfolding count
-count_more s xs i h = at_drop_more (count s) xs i 0 h
+passed_before : (p : ℕ → Bool) (xs : List ℕ) → position_or_len (λ x. not (p x)) xs ≡ prefix_len p xs
+passed_before p [] = refl
+passed_before p (x ∷ xs) = grind (arith, passed_before p xs)
 
-pub count_hit : (s : ℕ) (xs : List ℕ) (i : ℕ) → i < length xs → get_or xs i 0 ≡ s → count s (drop i xs) ≡ 1 + count s (drop (i + 1) xs)
-count_hit s xs i h e = count_more s xs i h ∙ ap (λ b. cond b 1 0 + count s (drop (i + 1) xs)) (eq-eqb (get_or xs i 0) s e)
-
-pub count_miss : (s : ℕ) (xs : List ℕ) (i : ℕ) → i < length xs → (get_or xs i 0 ≡ s → ⊥) → count s (drop i xs) ≡ 0 + count s (drop (i + 1) xs)
-count_miss s xs i h n = count_more s xs i h ∙ ap (λ b. cond b 1 0 + count s (drop (i + 1) xs)) (ne_eqb (get_or xs i 0) s n)
-
-pub count_all : (s : ℕ) (xs : List ℕ) (i : ℕ) → length xs ≤ i → count s (drop i xs) ≡ 0
-unfolding count
-count_all s xs i h = at_drop_all (count s) xs i h
-
-module _ (p : ℕ → Bool) (xs : List ℕ) (i : ℕ) where
-  -- the numbers before the place i pass
-  pub record Passed : Type 0 where
-    pub whole : each p (drop i xs) ≡ each p xs
-    pub place : i + first_failing p (drop i xs) ≡ first_failing p xs
-
-  each_more : i < length xs → each p (drop i xs) ≡ p (get_or xs i 0) && each p (drop (i + 1) xs)
-  unfolding each
-  each_more h = at_drop_more (each p) xs i 0 h
-
-  place_more : i < length xs → first_failing p (drop i xs) ≡ cond (p (get_or xs i 0)) (suc (first_failing p (drop (i + 1) xs))) 1
-  unfolding first_failing
-  place_more h = at_drop_more (first_failing p) xs i 0 h
-
-pub passed_none : (p : ℕ → Bool) (xs : List ℕ) → Passed p xs 0
-passed_none p xs = record { whole = refl; place = omega arith }
-
-pub passed_more : (p : ℕ → Bool) (xs : List ℕ) (i : ℕ) → i < length xs → p (get_or xs i 0) ≡ true → Passed p xs i → Passed p xs (i + 1)
-passed_more p xs i h t s =
-    let e = each_more p xs i h ∙ ap (λ b. b && each p (drop (i + 1) xs)) t in
-    let f = place_more p xs i h ∙ ap (λ b. cond b (suc (first_failing p (drop (i + 1) xs))) 1) t in
-    record { whole = sym e ∙ s.whole; place = omega (arith, f, s.place) }
-
--- the number at i fails
-pub passed_stop : (p : ℕ → Bool) (xs : List ℕ) (i : ℕ) → i < length xs → p (get_or xs i 0) ≡ false → Passed p xs i → (each p xs ≡ false) × (first_failing p xs ≡ i + 1)
-passed_stop p xs i h t s =
-    let e = each_more p xs i h ∙ ap (λ b. b && each p (drop (i + 1) xs)) t in
-    let f = place_more p xs i h ∙ ap (λ b. cond b (suc (first_failing p (drop (i + 1) xs))) 1) t in
-    (sym s.whole ∙ e, omega (arith, f, s.place))
-
-pub passed_all : (p : ℕ → Bool) (xs : List ℕ) (i : ℕ) → length xs ≤ i → Passed p xs i → each p xs ≡ true
+each_passed : (p : ℕ → Bool) (xs : List ℕ) → each p xs ≡ not (ltb (prefix_len p xs) (length xs))
 unfolding each
-passed_all p xs i h s = sym s.whole ∙ at_drop_all (each p) xs i h
+each_passed p [] = refl
+each_passed p (x ∷ xs) = grind (arith, each_passed p xs)
 
--- what a scan answers where it stops at a number that fails, and at the end
-module _ (e : ℕ → CardRefusal) (p : ℕ → Bool) (xs : List ℕ) (i : ℕ) (s : Passed p xs i) where
+-- what is answered where the scan stops at an index, and where it comes to the end
+abbrev pub stopped : (ℕ → CardRefusal) → Option ℕ → Result (Unit {0}) CardRefusal
+stopped e None = Ok tt
+stopped e (Some i) = Err (e (i + 1))
+
+pub scanned : (e : ℕ → CardRefusal) (p : ℕ → Bool) (xs : List ℕ) → stopped e (position (λ x. not (p x)) xs) ≡ unless (e (first_failing p xs)) (each p xs)
+scanned e p xs = grind (arith, passed_before p xs, each_passed p xs)
+
+-- A scan that goes from number to number and stops with a refusal: the numbers before the place i pass.
+module _ (e : ℕ → CardRefusal) (p : ℕ → Bool) (xs : List ℕ) (i : ℕ) (before : i ≤ prefix_len p xs) where
+  pub one_more : i < length xs → p (get_or xs i 0) ≡ true → i + 1 ≤ prefix_len p xs
+  one_more h t = grind (arith, prefix_len_stops p xs 0, before, h, t)
+
   pub refused_at : i < length xs → p (get_or xs i 0) ≡ false → Err (e (i + 1)) ≡ unless (e (first_failing p xs)) (each p xs)
-  refused_at h t =
-      let q = passed_stop p xs i h t s in
-      ap (λ (n : ℕ). Err (e n)) (sym q.1) ∙ sym (ap (unless (e (first_failing p xs))) q.0)
+  refused_at h t = grind (arith, each_passed p xs, prefix_len_passes p xs i 0, before, h, t)
 
   pub accepted_all : length xs ≤ i → Ok tt ≡ unless (e (first_failing p xs)) (each p xs)
-  accepted_all h = sym (ap (unless (e (first_failing p xs))) (passed_all p xs i h s))
+  accepted_all h = grind (arith, each_passed p xs, before, h)
 
 -- what an answer of two ways says of its test
 pub test_held : {X Y : Type 0} (b : Bool) (x z : X) (e : Y) (r : Result X Y) → r ≡ cond b (Ok x) (Err e) → r ≡ Ok z → b ≡ true

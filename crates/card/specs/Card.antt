@@ -1,7 +1,9 @@
 -- A card as plain data, and what opening, entering and clearing make of it.
-use Rattle.std.specs.Prelude.{◌≡◌, ℕ, suc, Bool, true, cond, ◌&&◌, List, [], ◌∷◌, length, take, drop, is_ok, Some, None, Ok, Err, Option, Result, ◌==◌, nat_le, slice_index}
+use Rattle.std.specs.Prelude.{◌≡◌, ℕ, ◌+◌, Bool, true, cond, ◌&&◌, List, [], ◌∷◌, length, drop, is_ok, Some, None, Ok, Err, Option, Result, ◌==◌, nat_le, slice_index}
+use Rattle.std.specs.List.{prefix_len}
 use Rattle.std.specs.Option.{option_map}
 use Rattle.std.specs.Result.{result_and}
+use Rattle.buffers.specs.Buffer.{text_of}
 use Rattle.coding.specs.Bits.{octet_bits}
 use Rattle.coding.specs.Crc.{crc8}
 use Rattle.card.specs.Fields.{each, length_within, keeps_first_octet, is_latitude, is_longitude, is_symbol, extension_inside, is_telephone, is_printing, is_message, missing_or}
@@ -21,10 +23,10 @@ pub record CardValue : Type 0 where
   pub message : Option (List ℕ)
 
 abbrev pub symbols_of : Telephone → List ℕ
-symbols_of t = take t.len t.symbols
+symbols_of t = text_of t.symbols
 
 abbrev pub octets_of : Message → List ℕ
-octets_of m = take m.len m.octets
+octets_of m = text_of m.octets
 
 abbrev pub value_of : Card → CardValue
 value_of c = record {
@@ -76,9 +78,8 @@ abbrev pub coordinate : ℕ → ℕ → ℕ → Coordinate
 coordinate d h s = record { degrees = d; hundredths = h; hemisphere = s }
 
 -- the place, counted from 1, of the first number that fails a test
-unfoldable pub first_failing : (ℕ → Bool) → List ℕ → ℕ
-first_failing p [] = 1
-first_failing p (x ∷ xs) = cond (p x) (suc (first_failing p xs)) 1
+abbrev pub first_failing : (ℕ → Bool) → List ℕ → ℕ
+first_failing p xs = prefix_len p xs + 1
 
 -- accepted where the test holds, else refused
 abbrev pub unless : CardRefusal → Bool → Result (Unit {0}) CardRefusal

@@ -1,16 +1,15 @@
 -- The rules of the identifier and of the four kinds of field. Octets and symbols are numbers, a symbol the code of its character.
-use Rattle.std.specs.Prelude.{ℕ, ◌+◌, ◌-◌, ◌%◌, Bool, true, cond, not, ◌&&◌, ◌||◌, List, [], ◌∷◌, length, Some, None, Option, ◌==◌, nat_le, slice_index}
+use Rattle.std.specs.Prelude.{ℕ, ◌-◌, ◌%◌, Bool, true, cond, not, ◌&&◌, ◌||◌, List, length, Some, None, Option, ◌==◌, nat_le, slice_index, count_by}
+use Rattle.std.specs.List.{list_all}
 use Rattle.card.specs.declared.fields.Coordinate.{Coordinate}
 
 -- whether each number of a list passes a test
 unfoldable pub each : (ℕ → Bool) → List ℕ → Bool
-each p [] = true
-each p (x ∷ xs) = p x && each p xs
+each p xs = list_all p xs
 
 -- how often s stands in a list
-unfoldable pub count : ℕ → List ℕ → ℕ
-count s [] = 0
-count s (x ∷ xs) = cond (x == s) 1 0 + count s xs
+abbrev pub count : ℕ → List ℕ → ℕ
+count s xs = count_by (λ x. x == s) xs
 
 -- from 1 to `most` long
 abbrev pub length_within : ℕ → List ℕ → Bool

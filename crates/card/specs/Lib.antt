@@ -3,3 +3,4 @@ pub mod Refusals
 pub mod Card
 pub mod Life
 pub mod Print
+pub mod Kinds

@@ -1,5 +1,7 @@
 -- The five lines that a card is printed as. Each ends in one line feed; a missing field prints its word alone.
 use Rattle.std.specs.Prelude.{ℕ, zero, suc, ◌+◌, ◌/◌, ◌%◌, ◌^◌, cond, List, [], ◌∷◌, ◌++◌, length, Some, None, Ok, Err, codes, Option, Result, ◌==◌, nat_lt}
+use Rattle.std.specs.List.{flat_map}
+use Rattle.std.specs.Option.{option_map}
 use Rattle.coding.specs.Bits.{octet_bits}
 use Rattle.coding.specs.Crc.{crc8}
 use Rattle.card.specs.Card.{CardValue}
@@ -17,8 +19,7 @@ hex_octet o = hex_digit (o / 16) ∷ hex_digit (o % 16) ∷ []
 
 -- octets in hexadecimal, each after a colon
 abbrev pub colon_octets : List ℕ → List ℕ
-colon_octets [] = []
-colon_octets (o ∷ os) = codes ":" ++ (hex_octet o ++ colon_octets os)
+colon_octets os = flat_map (λ o. codes ":" ++ hex_octet o) os
 
 -- n decimal digits, the highest first
 abbrev pub decimals : ℕ → ℕ → List ℕ
@@ -38,23 +39,24 @@ abbrev pub coordinate_text : ℕ → ℕ → ℕ → Coordinate → List ℕ
 coordinate_text n letter0 letter1 p =
     decimals n p.degrees ++ (minutes_text p.hundredths ++ (codes " " ++ (cond (p.hemisphere == 0) letter0 letter1 ∷ [])))
 
+-- a field's line: its word, and its text unless it is missing
+abbrev pub field_line : List ℕ → Option (List ℕ) → List ℕ
+field_line word None = word ++ codes "\n"
+field_line word (Some text) = word ++ (codes " " ++ (text ++ codes "\n"))
+
 -- the letters N and S
 abbrev pub latitude_line : Option Coordinate → List ℕ
-latitude_line None = codes "lat\n"
-latitude_line (Some p) = codes "lat " ++ (coordinate_text 2 78 83 p ++ codes "\n")
+latitude_line o = field_line (codes "lat") (option_map (coordinate_text 2 78 83) o)
 
 -- the letters E and W
 abbrev pub longitude_line : Option Coordinate → List ℕ
-longitude_line None = codes "long\n"
-longitude_line (Some p) = codes "long " ++ (coordinate_text 3 69 87 p ++ codes "\n")
+longitude_line o = field_line (codes "long") (option_map (coordinate_text 3 69 87) o)
 
 abbrev pub telephone_line : Option (List ℕ) → List ℕ
-telephone_line None = codes "tel\n"
-telephone_line (Some t) = codes "tel " ++ (t ++ codes "\n")
+telephone_line o = field_line (codes "tel") o
 
 abbrev pub message_line : Option (List ℕ) → List ℕ
-message_line None = codes "msg\n"
-message_line (Some t) = codes "msg " ++ (t ++ codes "\n")
+message_line o = field_line (codes "msg") o
 
 -- the five lines one after the other
 abbrev pub card_text : CardValue → List ℕ

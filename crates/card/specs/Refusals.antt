@@ -1,5 +1,6 @@
 -- The number, the half and the place of each refusal of a card and of its printing. 0 stands where one has no meaning.
 use Rattle.std.specs.Prelude.{ℕ}
+use Rattle.reports.specs.declared.report.Report.{Report}
 use Rattle.card.specs.declared.refusal.CardRefusal.{CardRefusal}
 use Rattle.card.specs.declared.refusal.CardRefusal.TheVariants.{NotNineOctets, CheckOctet, FirstOctet, Latitude, Longitude, TelephoneLength, TelephoneSymbol, TelephoneExtension, MessageLength, MessageOctet, NoSuchField}
 use Rattle.card.specs.declared.refusal.PrintRefusal.{PrintRefusal}
@@ -35,6 +36,9 @@ card_place MessageLength = 0
 card_place (MessageOctet place) = place
 card_place NoSuchField = 0
 
+abbrev pub card_report : CardRefusal → Report
+card_report r = record { number = card_number r; half = card_half r; place = card_place r }
+
 abbrev pub print_number : PrintRefusal → ℕ
 print_number ShortBuffer = 28
 
@@ -43,3 +47,6 @@ print_half r = 0
 
 abbrev pub print_place : PrintRefusal → ℕ
 print_place r = 0
+
+abbrev pub print_report : PrintRefusal → Report
+print_report r = record { number = print_number r; half = print_half r; place = print_place r }

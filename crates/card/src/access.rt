@@ -15,6 +15,7 @@ impl Identifier {
     }
 }
 
+// A call for each field: each is public, and stands.
 impl Card {
     /// The identifier.
     pub fn identifier(&self) -> Identifier

@@ -7,7 +7,7 @@ use crate::fields::{Coordinate, Message, Telephone};
 use crate::identifier::Identifier;
 
 /// An identifier and up to four fields, each of which keeps its rules.
-#[derive(Clone, Copy)]
+#[derive(Clone, Copy, PartialEq, Eq, Debug)]
 pub struct Card {
     pub(crate) identifier: Identifier,
     pub(crate) latitude: Option<Coordinate>,

@@ -1,16 +1,13 @@
 //! Whether octets make a lawful telephone or message.
 
-ghost use Rattle.std.specs.Prelude.{◌≡◌, ℕ, ◌+◌, ◌<◌, ◌≤◌, length, if◌then◌else◌, Ok, Err};
+ghost use Rattle.std.specs.Prelude.{◌≡◌, ℕ, ◌+◌, ◌<◌, ◌≤◌, not, length, position, if◌then◌else◌, Ok, Err};
 ghost use Rattle.card.specs.Fields.{is_symbol, symbol_code, count, extension_inside, is_printing};
 ghost use Rattle.card.specs.Card.{telephone_answer, symbols_answer, message_answer, octets_answer};
 
 use crate::refusal::CardRefusal;
 
-pub(crate) const MOST_SYMBOLS: usize = 18;
-
-pub(crate) const MOST_OCTETS: usize = 24;
-
 /// The four-bit code of a telephone symbol, or the refusal of the symbol at `place`.
+// Symbol by symbol, as the rule is read: `char::to_digit` would give the codes of the digits alone.
 pub fn symbol_code(symbol: char, place: u8) -> Result<u8, CardRefusal>
     ensures { result ≡ (if is_symbol symbol then Ok (symbol_code symbol) else Err (CardRefusal.TelephoneSymbol place)) }
 {
@@ -30,37 +27,22 @@ pub fn symbol_code(symbol: char, place: u8) -> Result<u8, CardRefusal>
     }
 }
 
-/// Whether the symbols make a telephone.
-pub(crate) fn check_telephone(symbols: &[u8]) -> Result<(), CardRefusal>
-    ensures { result ≡ telephone_answer symbols.now }
-{
-    if symbols.is_empty() {
-        return Err(CardRefusal::TelephoneLength);
-    }
-    if symbols.len() > MOST_SYMBOLS {
-        return Err(CardRefusal::TelephoneLength);
-    }
-    check_symbols(symbols)?;
-    if !extension_inside(symbols) {
-        return Err(CardRefusal::TelephoneExtension);
-    }
-    Ok(())
-}
+// The check of symbols and that of octets stay two: a symbol is refused by the match that gives its code, and an octet has no code.
 
 /// Whether each is a telephone symbol.
-fn check_symbols(symbols: &[u8]) -> Result<(), CardRefusal>
+pub(crate) fn check_symbols(symbols: &[u8]) -> Result<(), CardRefusal>
     requires { length symbols.now ≤ 18 }
     ensures { result ≡ symbols_answer symbols.now }
 {
-    for (i, symbol) in symbols.iter().enumerate() {
-        symbol_code(char::from(*symbol), place_at(i))?;
+    for (index, symbol) in symbols.iter().enumerate() {
+        symbol_code(char::from(*symbol), place_at(index))?;
     }
     Ok(())
 }
 
 /// Whether e comes at most once, neither first nor last.
-fn extension_inside(symbols: &[u8]) -> bool
-    requires { (1 ≤ length symbols.now) × (length symbols.now ≤ 18) }
+pub(crate) fn extension_inside(symbols: &[u8]) -> bool
+    requires { 1 ≤ length symbols.now }
     ensures { result ≡ extension_inside symbols.now }
 {
     count_extensions(symbols) <= 1 && symbols[0] != b'e' && symbols[symbols.len() - 1] != b'e'
@@ -70,39 +52,27 @@ fn extension_inside(symbols: &[u8]) -> bool
 fn count_extensions(symbols: &[u8]) -> usize
     ensures { result ≡ count 101 symbols.now }
 {
-    let mut extensions = 0;
-    for symbol in symbols {
-        if *symbol == b'e' {
-            extensions += 1;
-        }
-    }
-    extensions
-}
-
-/// Whether the octets make a message.
-pub(crate) fn check_message(octets: &[u8]) -> Result<(), CardRefusal>
-    ensures { result ≡ message_answer octets.now }
-{
-    if octets.is_empty() {
-        return Err(CardRefusal::MessageLength);
-    }
-    if octets.len() > MOST_OCTETS {
-        return Err(CardRefusal::MessageLength);
-    }
-    check_octets(octets)
+    symbols.iter().filter(|symbol| **symbol == b'e').count()
 }
 
 /// Whether each is a printing character.
-fn check_octets(octets: &[u8]) -> Result<(), CardRefusal>
+pub(crate) fn check_octets(octets: &[u8]) -> Result<(), CardRefusal>
     requires { length octets.now ≤ 24 }
     ensures { result ≡ octets_answer octets.now }
 {
-    for (i, octet) in octets.iter().enumerate() {
-        if !is_printing(*octet) {
-            return Err(CardRefusal::MessageOctet { place: place_at(i) });
-        }
+    match first_unprinted(octets) {
+        None => Ok(()),
+        Some(index) => Err(CardRefusal::MessageOctet {
+            place: place_at(index),
+        }),
     }
-    Ok(())
+}
+
+/// Where the first stands that is no printing character.
+fn first_unprinted(octets: &[u8]) -> Option<usize>
+    ensures { result ≡ position (λ x. not (is_printing x)) octets.now }
+{
+    octets.iter().position(|octet| !is_printing(*octet))
 }
 
 /// Whether an octet is a printing character.

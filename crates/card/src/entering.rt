@@ -1,20 +1,17 @@
 //! Entering and clearing the fields of a card.
 
-ghost use Rattle.std.specs.Prelude.{◌≡◌, ℕ, ◌≤◌, if◌then◌else◌, Some, None};
-ghost use Rattle.card.specs.Fields.{is_coordinate};
+ghost use Rattle.std.specs.Prelude.{◌≡◌};
 ghost use Rattle.card.specs.Card.{value_of, coordinate, answer_to, card_after};
 ghost use Rattle.card.specs.Card.Act.{enter_latitude, enter_longitude, enter_telephone, enter_message, clear_field};
 
 use crate::card::Card;
+use crate::coordinate::{MOST_LATITUDE, MOST_LONGITUDE};
 use crate::fields::{Coordinate, Message, Telephone};
+use crate::kinds::Field;
 use crate::refusal::CardRefusal;
 
-const MOST_LATITUDE: u32 = 90;
-
-const MOST_LONGITUDE: u32 = 180;
-
-const MOST_HUNDREDTHS: u32 = 5999;
-
+// Latitude and longitude are entered by two calls: one with a parameter for the field would be no plainer, and each is one call of what they
+// share. Hemispheres and the kind of a field come as numbers: every call takes any, and refuses what is none.
 impl Card {
     /// Enters the latitude: degrees 0 to 90, hundredths of a minute 0 to 5999, hemisphere 0 north or 1 south.
     pub fn enter_latitude(
@@ -26,10 +23,8 @@ impl Card {
         ensures answer { result ≡ answer_to (enter_latitude (coordinate degrees hundredths hemisphere)) }
         ensures after { value_of self.new ≡ card_after (value_of self.old) (enter_latitude (coordinate degrees hundredths hemisphere)) }
     {
-        let entry = lawful_coordinate(MOST_LATITUDE, degrees, hundredths, hemisphere).ok_or(
-            CardRefusal::Latitude,
-        )?;
-        self.latitude = Some(entry);
+        let entry = Coordinate::lawful(MOST_LATITUDE, degrees, hundredths, hemisphere);
+        self.latitude = Some(entry.ok_or(CardRefusal::Latitude)?);
         Ok(())
     }
 
@@ -43,10 +38,8 @@ impl Card {
         ensures answer { result ≡ answer_to (enter_longitude (coordinate degrees hundredths hemisphere)) }
         ensures after { value_of self.new ≡ card_after (value_of self.old) (enter_longitude (coordinate degrees hundredths hemisphere)) }
     {
-        let entry = lawful_coordinate(MOST_LONGITUDE, degrees, hundredths, hemisphere).ok_or(
-            CardRefusal::Longitude,
-        )?;
-        self.longitude = Some(entry);
+        let entry = Coordinate::lawful(MOST_LONGITUDE, degrees, hundredths, hemisphere);
+        self.longitude = Some(entry.ok_or(CardRefusal::Longitude)?);
         Ok(())
     }
 
@@ -55,8 +48,7 @@ impl Card {
         ensures answer { result ≡ answer_to (enter_telephone symbols.now) }
         ensures after { value_of self.new ≡ card_after (value_of self.old) (enter_telephone symbols.now) }
     {
-        let entry = Telephone::new(symbols)?;
-        self.telephone = Some(entry);
+        self.telephone = Some(Telephone::new(symbols)?);
         Ok(())
     }
 
@@ -65,8 +57,7 @@ impl Card {
         ensures answer { result ≡ answer_to (enter_message octets.now) }
         ensures after { value_of self.new ≡ card_after (value_of self.old) (enter_message octets.now) }
     {
-        let entry = Message::new(octets)?;
-        self.message = Some(entry);
+        self.message = Some(Message::new(octets)?);
         Ok(())
     }
 
@@ -75,39 +66,12 @@ impl Card {
         ensures answer { result ≡ answer_to (clear_field kind) }
         ensures after { value_of self.new ≡ card_after (value_of self.old) (clear_field kind) }
     {
-        match kind {
-            1 => self.latitude = None,
-            2 => self.longitude = None,
-            3 => self.telephone = None,
-            4 => self.message = None,
-            _ => return Err(CardRefusal::NoSuchField),
+        match Field::try_from(kind)? {
+            Field::Latitude => self.latitude = None,
+            Field::Longitude => self.longitude = None,
+            Field::Telephone => self.telephone = None,
+            Field::Message => self.message = None,
         }
         Ok(())
     }
-}
-
-/// The coordinate of these numbers, if it is lawful where degrees are at most `most`.
-fn lawful_coordinate(
-    most: u32,
-    degrees: u32,
-    hundredths: u32,
-    hemisphere: u32,
-) -> Option<Coordinate>
-    requires { most ≤ 255 }
-    ensures { result ≡ (if is_coordinate most (coordinate degrees hundredths hemisphere) then Some (coordinate degrees hundredths hemisphere) else None) }
-{
-    if degrees > most {
-        return None;
-    }
-    if hundredths > MOST_HUNDREDTHS {
-        return None;
-    }
-    if hemisphere > 1 {
-        return None;
-    }
-    Some(Coordinate {
-        degrees: degrees as u8,
-        hundredths: hundredths as u16,
-        hemisphere: hemisphere as u8,
-    })
 }

@@ -4,7 +4,7 @@ ghost use Rattle.std.specs.Prelude.{◌≡◌, true, length};
 ghost use Rattle.card.specs.Fields.{keeps_first_octet};
 
 /// Eight octets that keep the rule on the first of them.
-#[derive(Clone, Copy)]
+#[derive(Clone, Copy, PartialEq, Eq, Debug)]
 pub struct Identifier {
     pub(crate) octets: [u8; 8],
     ghost eight: { length octets ≡ 8 },

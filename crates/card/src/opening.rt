@@ -21,15 +21,11 @@ impl Identifier {
         let [check, rest @ ..] = octets else {
             return Err(CardRefusal::NotNineOctets);
         };
-        if rest.len() != 8 {
-            return Err(CardRefusal::NotNineOctets);
-        }
-        if !is_check_octet(*check, rest) {
+        let eight = <[u8; 8]>::try_from(rest).or(Err(CardRefusal::NotNineOctets))?;
+        if *check != crc8(&eight) {
             return Err(CardRefusal::CheckOctet);
         }
-        let mut identifier = [0; 8];
-        identifier.copy_from_slice(rest);
-        Identifier::new(identifier).ok_or(CardRefusal::FirstOctet)
+        Identifier::new(eight).ok_or(CardRefusal::FirstOctet)
     }
 
     /// The identifier of these eight octets, if the first keeps its rule.
@@ -49,13 +45,6 @@ impl Identifier {
     {
         crc8(&self.octets)
     }
-}
-
-/// Whether `check` is the CRC-8 of the octets.
-fn is_check_octet(check: u8, octets: &[u8]) -> bool
-    ensures { result ≡ (check == crc (octet_bits octets.now)) }
-{
-    check == crc8(octets)
 }
 
 /// Whether the first octet has the low bits 0 that the fourth and the fifth ask for.

@@ -1,19 +1,24 @@
 //! The five lines that a card is printed as.
 
-ghost use Rattle.std.specs.Prelude.{◌≡◌, ℕ, ◌+◌, ◌*◌, ◌/◌, ◌%◌, ◌<◌, ◌≤◌, ◌++◌, length, IfOk, Some, None, codes};
+ghost use Rattle.std.specs.Prelude.{◌≡◌, ℕ, ◌+◌, ◌*◌, ◌/◌, ◌%◌, ◌<◌, ◌≤◌, ◌∷◌, [], ◌++◌, length, if◌then◌else◌, IfOk, codes, ◌==◌, slice_index};
 ghost use Rattle.std.specs.Option.{option_map};
-ghost use Rattle.card.specs.Card.{value_of, symbols_of, octets_of};
-ghost use Rattle.coding.specs.Buffers.{Written};
-ghost use Rattle.card.specs.Print.{hex_digit, hex_octet, colon_octets, minutes_text, identifier_line, latitude_line, longitude_line, telephone_line, message_line, print_answer, printed};
+ghost use Rattle.buffers.specs.Buffer.{text_of, appended};
+ghost use Rattle.card.specs.Card.{value_of};
+ghost use Rattle.card.specs.Print.{hex_digit, hex_octet, decimals, minutes_text, coordinate_text, identifier_line, field_line, card_text, print_answer, printed};
 
-use crate::buffer::put;
 use crate::card::Card;
-use crate::fields::{Coordinate, Message, Telephone};
+use crate::fields::Coordinate;
 use crate::identifier::Identifier;
 use crate::refusal::PrintRefusal;
+use buffers::Buffer;
 
 /// The length of the longest text of a card.
 pub const LONGEST_TEXT: usize = 112;
+
+/// The lines written so far.
+type Page = Buffer<LONGEST_TEXT>;
+
+// Digits are made by hand and not by `write!`: std does not say when that succeeds, and `print` promises that it does.
 
 /// The character of a hexadecimal digit.
 fn hex_digit(digit: u8) -> u8
@@ -42,156 +47,89 @@ fn decimal(value: u16, unit: u16) -> u8
     b'0' + (value / unit % 10) as u8
 }
 
+/// The last two decimal digits of `value`.
+fn two_digits(value: u16) -> [u8; 2]
+    ensures { result ≡ decimals 2 value }
+{
+    [decimal(value, 10), decimal(value, 1)]
+}
+
 /// Hundredths of a minute as minutes with two places.
 fn minutes(hundredths: u16) -> [u8; 5]
     ensures { result ≡ minutes_text hundredths }
 {
-    let whole = hundredths / 100;
-    let rest = hundredths % 100;
-    [
-        decimal(whole, 10),
-        decimal(whole, 1),
-        b'.',
-        decimal(rest, 10),
-        decimal(rest, 1),
-    ]
+    let [a, b] = two_digits(hundredths / 100);
+    let [c, d] = two_digits(hundredths % 100);
+    [a, b, b'.', c, d]
 }
 
-/// A present latitude's line.
-fn latitude_line(p: Coordinate) -> [u8; 14]
-    ensures { result ≡ latitude_line (Some p) }
+/// Degrees of so many digits, minutes, and the letter of hemisphere 0 or of hemisphere 1.
+fn coordinate_text(p: Coordinate, digits: usize, letters: [u8; 2]) -> Buffer<10>
+    requires { digits ≤ 3 }
+    ensures { text_of result ≡ coordinate_text digits (slice_index letters 0) (slice_index letters 1) p }
 {
     let degrees = u16::from(p.degrees);
-    let [a, b, c, d, e] = minutes(p.hundredths);
-    let letter = if p.hemisphere == 0 { b'N' } else { b'S' };
-    [
-        b'l',
-        b'a',
-        b't',
-        b' ',
-        decimal(degrees, 10),
-        decimal(degrees, 1),
-        a,
-        b,
-        c,
-        d,
-        e,
-        b' ',
-        letter,
-        b'\n',
-    ]
-}
-
-/// A present longitude's line.
-fn longitude_line(p: Coordinate) -> [u8; 16]
-    ensures { result ≡ longitude_line (Some p) }
-{
-    let degrees = u16::from(p.degrees);
-    let [a, b, c, d, e] = minutes(p.hundredths);
-    let letter = if p.hemisphere == 0 { b'E' } else { b'W' };
-    let [x, y, z] = [
+    let three = [
         decimal(degrees, 100),
         decimal(degrees, 10),
         decimal(degrees, 1),
     ];
-    [
-        b'l', b'o', b'n', b'g', b' ', x, y, z, a, b, c, d, e, b' ', letter, b'\n',
-    ]
+    let [first, second] = letters;
+    let letter = if p.hemisphere == 0 { first } else { second };
+    let mut text = Buffer::new();
+    text.extend(&three[3 - digits..]);
+    text.extend(&minutes(p.hundredths));
+    text.extend(&[b' ', letter]);
+    text
 }
 
-/// Writes the latitude's line from the place `at` on, and says where it ends.
-fn put_latitude(out: &mut [u8], at: usize, latitude: Option<Coordinate>) -> usize
-    requires { at + 14 ≤ length out.old }
-    ensures bound { result ≤ at + 14 }
-    ensures line { Written at (latitude_line latitude) out.old out.new result }
+/// Appends the identifier's line.
+fn put_identifier(page: &mut Page, identifier: Identifier)
+    ensures { text_of page.new ≡ appended 112 (text_of page.old) (identifier_line identifier.octets) }
 {
-    match latitude {
-        None => put(out, at, b"lat\n"),
-        Some(p) => put(out, at, &latitude_line(p)),
+    page.extend(b"id ");
+    page.extend(&hex_octet(identifier.check_octet()));
+    for octet in identifier.octets() {
+        page.push(b':');
+        page.extend(&hex_octet(octet));
     }
+    page.push(b'\n');
 }
 
-/// Writes the longitude's line from the place `at` on, and says where it ends.
-fn put_longitude(out: &mut [u8], at: usize, longitude: Option<Coordinate>) -> usize
-    requires { at + 16 ≤ length out.old }
-    ensures bound { result ≤ at + 16 }
-    ensures line { Written at (longitude_line longitude) out.old out.new result }
+/// Appends a field's line: its word, and its text unless it is missing.
+fn put_field<const N: usize>(page: &mut Page, word: &[u8], text: Option<Buffer<N>>)
+    ensures { text_of page.new ≡ appended 112 (text_of page.old) (field_line word.now (option_map text_of text.entry)) }
 {
-    match longitude {
-        None => put(out, at, b"long\n"),
-        Some(p) => put(out, at, &longitude_line(p)),
+    page.extend(word);
+    if let Some(text) = text {
+        page.push(b' ');
+        page.extend(text.as_slice());
     }
-}
-
-/// Writes `word`, `text` and a line feed from the place `at` on, and says where they end.
-fn put_text(out: &mut [u8], at: usize, word: &[u8], text: &[u8]) -> usize
-    requires { at + (length word.now + (length text.now + 1)) ≤ length out.old }
-    ensures { Written at (word.now ++ (text.now ++ codes "\n")) out.old out.new result }
-{
-    let end = put(out, at, word);
-    let end = put(out, end, text);
-    put(out, end, b"\n")
-}
-
-/// Writes the telephone's line from the place `at` on, and says where it ends.
-fn put_telephone(out: &mut [u8], at: usize, telephone: Option<Telephone>) -> usize
-    requires { at + 23 ≤ length out.old }
-    ensures bound { result ≤ at + 23 }
-    ensures line { Written at (telephone_line (option_map symbols_of telephone)) out.old out.new result }
-{
-    match telephone {
-        None => put(out, at, b"tel\n"),
-        Some(t) => put_text(out, at, b"tel ", t.symbols()),
-    }
-}
-
-/// Writes the message's line from the place `at` on, and says where it ends.
-fn put_message(out: &mut [u8], at: usize, message: Option<Message>) -> usize
-    requires { at + 29 ≤ length out.old }
-    ensures bound { result ≤ at + 29 }
-    ensures line { Written at (message_line (option_map octets_of message)) out.old out.new result }
-{
-    match message {
-        None => put(out, at, b"msg\n"),
-        Some(m) => put_text(out, at, b"msg ", m.octets()),
-    }
-}
-
-/// Writes an octet in hexadecimal after a colon.
-fn put_colon_octet(out: &mut [u8], at: usize, octet: u8) -> usize
-    requires { at + 3 ≤ length out.old }
-    ensures { Written at (codes ":" ++ hex_octet octet) out.old out.new result }
-{
-    let [high, low] = hex_octet(octet);
-    put(out, at, &[b':', high, low])
-}
-
-/// Writes the identifier's line from the place `at` on, and says where it ends.
-fn put_identifier(out: &mut [u8], at: usize, identifier: Identifier) -> usize
-    requires { at + 30 ≤ length out.old }
-    ensures bound { result ≤ at + 30 }
-    ensures line { Written at (identifier_line identifier.octets) out.old out.new result }
-{
-    let end = put(out, at, b"id ");
-    let end = put(out, end, &hex_octet(identifier.check_octet()));
-    let end = put_colon_octets(out, end, &identifier.octets());
-    put(out, end, b"\n")
-}
-
-/// Writes octets in hexadecimal, each after a colon.
-fn put_colon_octets(out: &mut [u8], at: usize, octets: &[u8]) -> usize
-    requires { at + 3 * length octets.now ≤ length out.old }
-    ensures ends { result ≡ at + 3 * length octets.now }
-    ensures text { Written at (colon_octets octets.now) out.old out.new result }
-{
-    let mut end = at;
-    for octet in octets {
-        end = put_colon_octet(out, end, *octet);
-    }
-    end
+    page.push(b'\n');
 }
 
 impl Card {
+    /// The card's five lines.
+    fn text(&self) -> Page
+        ensures { text_of result ≡ card_text (value_of self.now) }
+    {
+        let mut page = Buffer::new();
+        put_identifier(&mut page, self.identifier);
+        put_field(
+            &mut page,
+            b"lat",
+            self.latitude.map(|p| coordinate_text(p, 2, [b'N', b'S'])),
+        );
+        put_field(
+            &mut page,
+            b"long",
+            self.longitude.map(|p| coordinate_text(p, 3, [b'E', b'W'])),
+        );
+        put_field(&mut page, b"tel", self.telephone.map(|t| t.symbols));
+        put_field(&mut page, b"msg", self.message.map(|m| m.octets));
+        page
+    }
+
     /// Writes the card's five lines to the front of `out` and answers their length. The octets after them stay.
     pub fn print(&self, out: &mut [u8]) -> Result<usize, PrintRefusal>
         ensures answer { result ≡ print_answer (value_of self.now) out.old }
@@ -201,10 +139,9 @@ impl Card {
         if out.len() < LONGEST_TEXT {
             return Err(PrintRefusal::ShortBuffer);
         }
-        let end = put_identifier(out, 0, self.identifier);
-        let end = put_latitude(out, end, self.latitude);
-        let end = put_longitude(out, end, self.longitude);
-        let end = put_telephone(out, end, self.telephone);
-        Ok(put_message(out, end, self.message))
+        let text = self.text();
+        let len = text.len();
+        out[..len].copy_from_slice(text.as_slice());
+        Ok(len)
     }
 }

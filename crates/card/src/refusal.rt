@@ -1,10 +1,8 @@
 //! What is refused of a card, and with which number.
 
-ghost use Rattle.std.specs.Prelude.{◌≡◌};
-ghost use Rattle.card.specs.Refusals.{card_number, card_half, card_place, print_number, print_half, print_place};
+ghost use Rattle.card.specs.Refusals.{card_report, print_report};
 
-/// Stands where a refusal has no half, or no place.
-const NONE: u8 = 0;
+use reports::{Refusal, Report};
 
 /// Why a card was not opened, or not changed.
 #[derive(Clone, Copy, PartialEq, Eq, Debug)]
@@ -33,41 +31,22 @@ pub enum CardRefusal {
     NoSuchField,
 }
 
-impl CardRefusal {
-    /// The refusal's number.
-    pub fn number(self) -> u8
-        ensures { result ≡ card_number self }
-    {
-        match self {
-            CardRefusal::NotNineOctets => 1,
-            CardRefusal::CheckOctet => 2,
-            CardRefusal::FirstOctet => 3,
-            CardRefusal::Latitude => 4,
-            CardRefusal::Longitude => 5,
-            CardRefusal::TelephoneLength => 6,
-            CardRefusal::TelephoneSymbol { .. } => 7,
-            CardRefusal::TelephoneExtension => 8,
-            CardRefusal::MessageLength => 9,
-            CardRefusal::MessageOctet { .. } => 10,
-            CardRefusal::NoSuchField => 11,
-        }
-    }
+impl Refusal for CardRefusal {
+    ghost report_of = { card_report };
 
-    /// The half of a frame that is meant: 0, as a card has none.
-    pub fn half(self) -> u8
-        ensures { result ≡ card_half self }
-    {
-        NONE
-    }
-
-    /// The place of the bad symbol or octet, counted from 1; 0 where the refusal has no place.
-    pub fn place(self) -> u8
-        ensures { result ≡ card_place self }
-    {
+    fn report(self) -> Report {
         match self {
-            CardRefusal::TelephoneSymbol { place } => place,
-            CardRefusal::MessageOctet { place } => place,
-            _ => NONE,
+            CardRefusal::NotNineOctets => Report::number_alone(1),
+            CardRefusal::CheckOctet => Report::number_alone(2),
+            CardRefusal::FirstOctet => Report::number_alone(3),
+            CardRefusal::Latitude => Report::number_alone(4),
+            CardRefusal::Longitude => Report::number_alone(5),
+            CardRefusal::TelephoneLength => Report::number_alone(6),
+            CardRefusal::TelephoneSymbol { place } => Report::at_place(7, place),
+            CardRefusal::TelephoneExtension => Report::number_alone(8),
+            CardRefusal::MessageLength => Report::number_alone(9),
+            CardRefusal::MessageOctet { place } => Report::at_place(10, place),
+            CardRefusal::NoSuchField => Report::number_alone(11),
         }
     }
 }
@@ -79,27 +58,12 @@ pub enum PrintRefusal {
     ShortBuffer,
 }
 
-impl PrintRefusal {
-    /// The refusal's number.
-    pub fn number(self) -> u8
-        ensures { result ≡ print_number self }
-    {
+impl Refusal for PrintRefusal {
+    ghost report_of = { print_report };
+
+    fn report(self) -> Report {
         match self {
-            PrintRefusal::ShortBuffer => 28,
+            PrintRefusal::ShortBuffer => Report::number_alone(28),
         }
-    }
-
-    /// The half of a frame that is meant: 0, as a card has none.
-    pub fn half(self) -> u8
-        ensures { result ≡ print_half self }
-    {
-        NONE
-    }
-
-    /// The place that is meant: 0, as there is none.
-    pub fn place(self) -> u8
-        ensures { result ≡ print_place self }
-    {
-        NONE
     }
 }

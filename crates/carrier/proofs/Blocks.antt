@@ -1,7 +1,6 @@
 -- One block more.
-use Rattle.std.proofs.Common.{◌≡◌, ℕ, ◌+◌, ◌<◌, ◌≤◌, Bool, true, false, cond, eqb, List, [], ◌∷◌, ◌++◌, length, take, set, Ok, Err, sym, refl, ap, ◌∙◌, ap₂, arith}
-use Rattle.std.proofs.lemmas.List.{length-take-le, take_more_set}
-use Rattle.std.proofs.lemmas.Bool.{eqb-true}
+use Rattle.std.proofs.Common.{◌≡◌, ℕ, ◌+◌, ◌<◌, Bool, true, false, cond, eqb, List, [], ◌∷◌, ◌++◌, length, Ok, Err, refl, ap, ◌∙◌, arith}
+use Rattle.std.proofs.lemmas.Bool.{eq-eqb, ne_eqb}
 use Rattle.line.specs.Line.{Model}
 use Rattle.chips.specs.Chips.{despread}
 use Rattle.chips.specs.Calls.{despread_answer}
@@ -32,33 +31,20 @@ module _ (m : Model) (s : Receiving) (block : List ℕ) where
       by false k = absurd (let z : ◌≡◌ {A = ℕ} 0 1 = cc in omega arith)
 
 -- ---- with a bit more the take is whole, or not
-module _ (m : Model) (heard size : ℕ) (bits : List ℕ) (r : Reading) (bit : ℕ) (within : heard < size) (room : size ≤ length bits) where
-  abbrev before : Receiving
-  before = record { heard = take heard bits; size = size; reading = r }
-
-  long : length (take heard bits) ≡ heard
-  long = length-take-le heard bits (omega arith)
-
-  pub one_more : take (heard + 1) (set bits heard bit) ≡ take heard bits ++ (bit ∷ [])
-  one_more = take_more_set bits heard bit (omega arith)
-
-  pub not_whole : eqb (heard + 1) size ≡ false →
-      on_bit m before bit ≡ record { answer = Ok counted; after = record { heard = take (heard + 1) (set bits heard bit); size = size; reading = r } }
+module _ (m : Model) (s : Receiving) (bit : ℕ) where
+  pub not_whole : length s.heard + 1 < s.size →
+      on_bit m s bit ≡ record { answer = Ok counted; after = record { heard = s.heard ++ (bit ∷ []); size = s.size; reading = s.reading } }
   unfolding on_bit
-  not_whole e = rw (long, e, one_more)
+  not_whole h = let ne : length s.heard + 1 ≡ s.size → ⊥ = λ e. omega arith in rw (ne_eqb (length s.heard + 1) s.size ne)
 
-  pub whole : eqb (heard + 1) size ≡ true →
-      on_bit m before bit
+  pub whole : length s.heard + 1 ≡ s.size →
+      on_bit m s bit
       ≡ record {
-        answer = of_take (take_outcome m r (take size (set bits heard bit))).answer;
-        after = record { heard = []; size = size; reading = (take_outcome m r (take size (set bits heard bit))).after };
+        answer = of_take (take_outcome m s.reading (s.heard ++ (bit ∷ []))).answer;
+        after = record { heard = []; size = s.size; reading = (take_outcome m s.reading (s.heard ++ (bit ∷ []))).after };
       }
   unfolding on_bit on_whole
-  whole e =
-      let all : take size (set bits heard bit) ≡ take heard bits ++ (bit ∷ []) =
-      ap (λ (n : ℕ). take n (set bits heard bit)) (sym (eqb-true (heard + 1) size e)) ∙ one_more
-      in
-      rw (long, e, all)
+  whole e = rw (eq-eqb (length s.heard + 1) s.size e)
 
 -- a reader by its parts
 pub same : (s : Receiving) (heard : List ℕ) (size : ℕ) (r : Reading) → s.heard ≡ heard → s.size ≡ size → s.reading ≡ r →
@@ -67,6 +53,3 @@ same s heard size r e f g =
     ap (λ (x : List ℕ). record { heard = x; size = s.size; reading = s.reading }) e
     ∙ ap (λ (x : ℕ). record { heard = heard; size = x; reading = s.reading }) f
     ∙ ap (λ (x : Reading). record { heard = heard; size = size; reading = x }) g
-
-pub heard_same : (heard heard' : ℕ) (bits bits' : List ℕ) → heard' ≡ heard → bits' ≡ bits → take heard' bits' ≡ take heard bits
-heard_same heard heard' bits bits' e f = ap₂ (λ (n : ℕ) (l : List ℕ). take n l) e f

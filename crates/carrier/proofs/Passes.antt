@@ -40,12 +40,13 @@ closed_one (Ok taken) = refl
 closed_one (Ok (closed c)) = refl
 closed_one (Err e) = refl
 
-pub none_passed : (m : Model) (s : Receiving) → Passed m 0 s 0 0 s
+pub none_passed : (m : Model) (s : Receiving) (r c : ℕ) → r ≡ 0 → c ≡ 0 → Passed m 0 s r c s
 unfolding answers_to receiving_after refusals closed_cards
-none_passed m s = record { arriving = []; many = refl; are_blocks = tt; refused_is = refl; closed_is = refl; after = refl }
+none_passed m s r c e f = record { arriving = []; many = refl; are_blocks = tt; refused_is = e; closed_is = f; after = refl }
 
-pub one_passed : (m : Model) (n : ℕ) (s s' s'' : Receiving) (r c r' c' : ℕ) → Passed m n s r c s' → OneMore m s' r c s'' r' c' → Passed m (n + 1) s r' c' s''
-one_passed m n s s' s'' r c r' c' p o =
+pub one_passed : (m : Model) (n : ℕ) (s s' s'' : Receiving) (r c r' c' : ℕ) (answer : Result Answer ReaderRefusal) → Passed m n s r c s' → OneMore m s' answer s'' → r' ≡ r + refused_by answer → c' ≡ c + closed_by answer
+    → Passed m (n + 1) s r' c' s''
+one_passed m n s s' s'' r c r' c' answer p o refusals_are closings_are =
     let xs = p.arriving in
     let b = o.block in
     let a = (on_block m (receiving_after m s xs) b).answer in
@@ -55,12 +56,12 @@ one_passed m n s s' s'' r c r' c' p o =
       many = length_push xs b ∙ omega (arith, p.many);
       are_blocks = All-push IsBlock xs b p.are_blocks o.is_block;
       refused_is =
-          o.refused_is
-          ∙ ap₂ (λ (x y : ℕ). x + y) p.refused_is (ap (λ q. refused_by q.answer) here ∙ sym (refused_one a))
+          refusals_are
+          ∙ ap₂ (λ (x y : ℕ). x + y) p.refused_is (ap refused_by o.answered ∙ ap (λ q. refused_by q.answer) here ∙ sym (refused_one a))
           ∙ sym (ap length (ap refusals (answers_push m s xs b) ∙ refusals_append (answers_to m s xs) (a ∷ [])) ∙ length-append (refusals (answers_to m s xs)) (refusals (a ∷ [])));
       closed_is =
-          o.closed_is
-          ∙ ap₂ (λ (x y : ℕ). x + y) p.closed_is (ap (λ q. closed_by q.answer) here ∙ sym (closed_one a))
+          closings_are
+          ∙ ap₂ (λ (x y : ℕ). x + y) p.closed_is (ap closed_by o.answered ∙ ap (λ q. closed_by q.answer) here ∙ sym (closed_one a))
           ∙ sym (ap length (ap closed_cards (answers_push m s xs b) ∙ closed_append (answers_to m s xs) (a ∷ [])) ∙ length-append (closed_cards (answers_to m s xs)) (closed_cards (a ∷ [])));
       after = o.after ∙ ap (λ q. q.after) here ∙ sym (after_push m s xs b);
     }

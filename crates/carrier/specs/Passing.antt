@@ -12,6 +12,7 @@ use Rattle.sender.specs.declared.refusal.SenderRefusal.TheVariants.{FrameNumber}
 use Rattle.round.specs.Rounds.{Answer}
 use Rattle.round.specs.Rounds.Answer.{counted, passed_over, taken, closed}
 use Rattle.round_laws.specs.TwoRounds.{refusals, closed_cards}
+use Rattle.carrier.specs.declared.refusal.ReaderRefusal.{ReaderRefusal}
 use Rattle.carrier.specs.Receiving.{Receiving, fresh_of, on_block, answers_to, receiving_after}
 
 -- how many refusals, and how many closed cards, an answer counts for
@@ -29,12 +30,11 @@ abbrev pub closed_by : {E : Type 0} → Result Answer E → ℕ
 closed_by (Ok a) = closed_by_answer a
 closed_by (Err e) = 0
 
--- A reader that stood at s received one block more: which it is hangs on the air alone.
-pub record OneMore (m : Model) (s : Receiving) (refused closed : ℕ) (s' : Receiving) (refused' closed' : ℕ) : Type 0 where
+-- A reader that stood at s received one block more, which it answered so: which it is hangs on the air alone.
+pub record OneMore (m : Model) (s : Receiving) (answer : Result Answer ReaderRefusal) (s' : Receiving) : Type 0 where
   pub block : List ℕ
   pub is_block : IsBlock block
-  pub refused_is : refused' ≡ refused + refused_by (on_block m s block).answer
-  pub closed_is : closed' ≡ closed + closed_by (on_block m s block).answer
+  pub answered : answer ≡ (on_block m s block).answer
   pub after : s' ≡ (on_block m s block).after
 
 -- A reader that stood at s received so many blocks: which they are hangs on the air alone. It refused and closed so often, and

@@ -1,5 +1,6 @@
 -- What a reader answers to each block, and what it keeps.
-use Rattle.std.specs.Prelude.{ℕ, ◌+◌, cond, List, [], ◌∷◌, ◌++◌, length, take, replicate, Ok, Err, Result, ◌==◌}
+use Rattle.std.specs.Prelude.{ℕ, ◌+◌, cond, List, [], ◌∷◌, ◌++◌, length, replicate, Ok, Err, Result, ◌==◌}
+use Rattle.buffers.specs.Buffer.{text_of}
 use Rattle.line.specs.Line.{Model}
 use Rattle.line.specs.Calls.{decode_output}
 use Rattle.frame.specs.Judging.{judged}
@@ -19,7 +20,7 @@ pub record Receiving : Type 0 where
   pub reading : Reading
 
 abbrev pub receiving_of : {L : Type 0} → Reader L → Receiving
-receiving_of r = record { heard = take r.heard r.bits; size = r.size; reading = reading_of r.rounds }
+receiving_of r = record { heard = text_of r.heard; size = r.size; reading = reading_of r.rounds }
 
 -- a fresh reader of takes of so many blocks
 abbrev pub fresh_of : ℕ → Receiving

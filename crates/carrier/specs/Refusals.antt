@@ -1,5 +1,6 @@
 -- The number, the half and the place of each refusal of a reader. 0 stands where one has no meaning.
 use Rattle.std.specs.Prelude.{ℕ}
+use Rattle.reports.specs.declared.report.Report.{Report}
 use Rattle.chips.specs.declared.refusal.BlockRefusal.{BlockRefusal}
 use Rattle.chips.specs.declared.refusal.BlockRefusal.TheVariants.{WrongLength}
 use Rattle.round.specs.Refusals as round
@@ -20,6 +21,9 @@ abbrev pub place_of : ReaderRefusal → ℕ
 place_of FrameNotTaken = 0
 place_of BlockLength = 0
 place_of (Take refusal) = round.place_of refusal
+
+abbrev pub report_of : ReaderRefusal → Report
+report_of r = record { number = number_of r; half = half_of r; place = place_of r }
 
 -- octets that are no block
 abbrev pub of_block : BlockRefusal → ReaderRefusal

@@ -1,24 +1,23 @@
 //! Making a reader, and receiving blocks.
 
-ghost use Rattle.std.specs.Prelude.{◌≡◌, ℕ, ◌+◌, ◌<◌, ◌≤◌, length, take, replicate, IfOk, if◌then◌else◌, ◌==◌, slice_set};
+ghost use Rattle.std.specs.Prelude.{◌≡◌, ◌<◌, ◌≤◌, [], replicate, IfOk, MatchOption};
 ghost use Rattle.std.specs.Option.{option_map};
 ghost use Rattle.card.specs.Card.{value_of, on_ok};
+ghost use Rattle.buffers.specs.Buffer.{text_of};
 ghost use Rattle.line.specs.Calls.{decode_output};
 ghost use Rattle.frame.specs.Judging.{judged};
 ghost use Rattle.round.specs.Rounds.{fresh};
 ghost use Rattle.round.specs.Views.{answer_of, reading_of};
-ghost use Rattle.carrier.specs.Receiving.{receiving_of, fresh_of, started, of_take, take_outcome, on_block};
+ghost use Rattle.carrier.specs.Receiving.{receiving_of, fresh_of, started, on_block};
+ghost use Rattle.carrier.specs.Hearing.{Counted, Completed};
 
-use crate::reader::Reader;
+use crate::reader::{Heard, Reader};
 use crate::refusal::ReaderRefusal;
 use card::Card;
 use chips::despread;
-use frame::{Frame, FrameRefusal, judge};
-use line::{LONGEST, Line};
+use frame::{FRAME_BITS, Frame, FrameRefusal, judge};
+use line::Line;
 use round::{Answer, RoundReader};
-
-/// The bits of a frame.
-const FRAME_BITS: usize = 244;
 
 impl<L: Line> Reader<L> {
     /// A fresh reader of what arrives over the line.
@@ -39,14 +38,13 @@ impl<L: Line> Reader<L> {
         requires { (0 < size) × (size ≤ 4096) }
         ensures line { result.line ≡ line }
         ensures size { result.size ≡ size }
-        ensures heard { result.heard ≡ 0 }
+        ensures heard { text_of result.heard ≡ [] }
         ensures rounds { reading_of result.rounds ≡ fresh }
     {
         Reader {
             line,
             size,
-            heard: 0,
-            bits: [0; LONGEST],
+            heard: Heard::new(),
             rounds: RoundReader::new(),
         }
     }
@@ -58,48 +56,27 @@ impl<L: Line> Reader<L> {
         ensures line { self.new.line ≡ self.old.line }
     {
         let bit = despread(block)?;
-        if !self.hear(bit) {
-            return Ok(Answer::Counted);
+        match self.hear(bit) {
+            None => Ok(Answer::Counted),
+            Some(take) => Ok(self.rounds.take(judge_bits(&self.line, take.as_slice()))?),
         }
-        self.take_whole()
     }
 
-    /// Judges the whole take, and takes it into the round.
-    fn take_whole(&mut self) -> Result<Answer, ReaderRefusal>
-        ensures answer { on_ok answer_of result ≡ of_take (take_outcome (L.Line.model self.old.line) (reading_of self.old.rounds) (take self.old.size self.old.bits)).answer }
-        ensures after { reading_of self.new.rounds ≡ (take_outcome (L.Line.model self.old.line) (reading_of self.old.rounds) (take self.old.size self.old.bits)).after }
-        ensures heard { self.new.heard ≡ self.old.heard }
-        ensures size { self.new.size ≡ self.old.size }
-        ensures line { self.new.line ≡ self.old.line }
-    {
-        let judged = self.judge_take();
-        Ok(self.rounds.take(judged)?)
-    }
-
-    /// What the line bits of the whole take are judged as.
-    fn judge_take(&self) -> Result<Frame, FrameRefusal>
-        ensures { result ≡ judged (decode_output (L.Line.model self.now.line) (take self.now.size self.now.bits) (replicate 244 0)) }
-    {
-        let size = self.size;
-        judge_bits(&self.line, &self.bits[..size])
-    }
-
-    /// One line bit more, and whether the take is whole with it.
-    fn hear(&mut self, bit: u8) -> bool
-        ensures whole { result ≡ (self.old.heard + 1 == self.old.size) }
-        ensures bits { self.new.bits ≡ slice_set self.old.bits self.old.heard bit }
-        ensures heard { self.new.heard ≡ (if result then 0 else self.old.heard + 1) }
+    /// Hears one line bit more, and hands out those of the take if it is whole.
+    fn hear(&mut self, bit: u8) -> Option<Heard>
+        ensures heard { MatchOption result (Counted (text_of self.old.heard) self.old.size bit (text_of self.new.heard)) (λ take. Completed (text_of self.old.heard) self.old.size bit (text_of take) (text_of self.new.heard)) }
         ensures size { self.new.size ≡ self.old.size }
         ensures rounds { self.new.rounds ≡ self.old.rounds }
         ensures line { self.new.line ≡ self.old.line }
     {
-        self.bits[self.heard] = bit;
-        self.heard += 1;
-        if self.heard < self.size {
-            return false;
+        if self.heard.len() + 1 < self.size {
+            self.heard.push(bit);
+            return None;
         }
-        self.heard = 0;
-        true
+        let mut take = self.heard;
+        take.push(bit);
+        self.heard = Heard::new();
+        Some(take)
     }
 
     /// Makes the reader fresh: the take, the round and the closed card are gone.
@@ -107,7 +84,7 @@ impl<L: Line> Reader<L> {
         ensures receiving { receiving_of self.new ≡ fresh_of (receiving_of self.old).size }
         ensures line { self.new.line ≡ self.old.line }
     {
-        self.heard = 0;
+        self.heard = Heard::new();
         self.rounds = RoundReader::new();
     }
 

@@ -1,14 +1,12 @@
 //! What a reader refuses, and with which number.
 
 ghost use Rattle.std.specs.Prelude.{◌≡◌};
-ghost use Rattle.carrier.specs.Refusals.{number_of, half_of, place_of, of_block};
+ghost use Rattle.carrier.specs.Refusals.{report_of, of_block};
 ghost use Rattle.carrier.specs.declared.refusal.ReaderRefusal.TheVariants.{Take};
 
 use chips::BlockRefusal;
+use reports::{Refusal, Report};
 use round::TakeRefusal;
-
-/// Stands where a refusal has no half, or no place.
-const NONE: u8 = 0;
 
 /// Why a reader was not made, or did not accept a block or the take that the block ends.
 #[derive(Clone, Copy, PartialEq, Eq, Debug)]
@@ -21,35 +19,14 @@ pub enum ReaderRefusal {
     Take(TakeRefusal),
 }
 
-impl ReaderRefusal {
-    /// The refusal's number.
-    pub fn number(self) -> u8
-        ensures { result ≡ number_of self }
-    {
-        match self {
-            ReaderRefusal::FrameNotTaken => 12,
-            ReaderRefusal::BlockLength => 15,
-            ReaderRefusal::Take(refusal) => refusal.number(),
-        }
-    }
+impl Refusal for ReaderRefusal {
+    ghost report_of = { report_of };
 
-    /// The half that is meant, 1 or 2; 0 where none is.
-    pub fn half(self) -> u8
-        ensures { result ≡ half_of self }
-    {
+    fn report(self) -> Report {
         match self {
-            ReaderRefusal::Take(refusal) => refusal.half(),
-            _ => NONE,
-        }
-    }
-
-    /// The Content ID of the half that is meant; 0 where none is.
-    pub fn place(self) -> u8
-        ensures { result ≡ place_of self }
-    {
-        match self {
-            ReaderRefusal::Take(refusal) => refusal.place(),
-            _ => NONE,
+            ReaderRefusal::FrameNotTaken => Report::number_alone(12),
+            ReaderRefusal::BlockLength => Report::number_alone(15),
+            ReaderRefusal::Take(refusal) => refusal.report(),
         }
     }
 }

@@ -14,13 +14,13 @@ use crate::reader::Reader;
 use card::Card;
 use content::Sequence;
 use line::Line;
-use sender::{Sender, SenderRefusal};
+use sender::{LAST_NUMBER, Sender, SenderRefusal};
 
 /// How many frame numbers there are.
-const FRAME_NUMBERS: usize = 1_000_000_000;
+const FRAME_NUMBERS: usize = LAST_NUMBER as usize + 1;
 
 /// What came of two rounds.
-#[derive(Clone, Copy)]
+#[derive(Clone, Copy, PartialEq, Eq, Debug)]
 pub struct Reception {
     /// How many takes were refused.
     pub refused: usize,

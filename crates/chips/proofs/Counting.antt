@@ -1,9 +1,11 @@
 -- Counting unlike chips: eight octets as one number, and a block as words of eight octets.
-use Rattle.std.proofs.Common.{◌≡◌, ℕ, zero, suc, ◌+◌, ◌*◌, ◌/◌, ◌%◌, ◌^◌, ◌<◌, ◌≤◌, true, cond, eqb, List, [], ◌∷◌, ◌++◌, length, get_or, take, drop, sym, refl, ap, ◌∙◌, subst, ap₂, mod-eq_of_lt, arith}
+use Rattle.std.proofs.Common.{◌≡◌, ℕ, zero, suc, ◌+◌, ◌*◌, ◌/◌, ◌%◌, ◌^◌, ◌<◌, true, cond, eqb, List, [], ◌∷◌, ◌++◌, length, get_or, take, drop, sum_by, sym, refl, ap, ◌∙◌, subst, ap₂, mod-eq_of_lt, arith}
 use lib.Bits.{bit_xor, xor_shr, xor_mod}
 use lib.Count.{ones, ones_step}
 use Rattle.std.specs.Simd.{first_chunks}
-use Rattle.std.proofs.lemmas.List.{take-append-drop, drop-drop, length-take, length-drop}
+use Rattle.std.specs.List.{zip}
+use Rattle.std.proofs.lemmas.List.{take-append-drop, length-take, length-drop}
+use Rattle.std.proofs.lemmas.List.Sums.{sum_by-cons}
 use Rattle.coding.specs.Bits.{are_bits, bits, number_after, number, group_bits}
 use Rattle.coding.specs.Distance.{distance}
 use Rattle.coding.proofs.Words.{length_bits, bits_none, bits_low}
@@ -107,13 +109,6 @@ unlike_words a b la lb sa sb =
     long os l = length_group_bits 8 os ∙ ap (λ (n : ℕ). n * 8) l
 
 -- ---- a block as words of eight octets
-chunk_at : (k i : ℕ) (xs : List ℕ) → i < k → get_or (first_chunks 8 k xs) i [] ≡ take 8 (drop (8 * i) xs)
-chunk_at zero i xs h = absurd (omega arith)
-chunk_at (suc k) zero xs h = refl
-chunk_at (suc k) (suc i) xs h =
-    chunk_at k i (drop 8 xs) (omega arith)
-    ∙ ap (take 8) (drop-drop (8 * i) 8 xs ∙ ap (λ (j : ℕ). drop j xs) (omega arith))
-
 unlike_split : (n : ℕ) (xs ys : List ℕ) → length xs ≡ length ys
     → distance (group_bits 8 xs) (group_bits 8 ys)
     ≡ distance (group_bits 8 (take n xs)) (group_bits 8 (take n ys)) + distance (group_bits 8 (drop n xs)) (group_bits 8 (drop n ys))
@@ -128,27 +123,18 @@ unlike_split n xs ys e =
     long : (os : List ℕ) → length (group_bits 8 (take n os)) ≡ length (take n os) * 8
     long os = length_group_bits 8 (take n os)
 
--- one word more is compared
-pub unlike_more : (x p : List ℕ) (xs ps : List (List ℕ)) (i r : ℕ) → length x ≡ 512 → length p ≡ 512
-    → xs ≡ first_chunks 8 (length x / 8) x → ps ≡ first_chunks 8 (length p / 8) p → i < 64
-    → r ≡ distance (group_bits 8 (get_or xs i [])) (group_bits 8 (get_or ps i []))
-    → distance (group_bits 8 (drop (8 * i) x)) (group_bits 8 (drop (8 * i) p))
-    ≡ r + distance (group_bits 8 (drop (8 * (i + 1)) x)) (group_bits 8 (drop (8 * (i + 1)) p))
-unlike_more x p xs ps i r lx lp ex ep h e =
-    unlike_split 8 (drop (8 * i) x) (drop (8 * i) p) (omega (arith, length-drop (8 * i) x, length-drop (8 * i) p))
-    ∙ ap₂ ◌+◌ (sym (e ∙ ap₂ (λ (a b : List ℕ). distance (group_bits 8 a) (group_bits 8 b)) (word x xs lx ex) (word p ps lp ep)))
-    (ap₂ (λ (a b : List ℕ). distance (group_bits 8 a) (group_bits 8 b)) (rest x) (rest p))
-  where
-    word : (os : List ℕ) (ws : List (List ℕ)) → length os ≡ 512 → ws ≡ first_chunks 8 (length os / 8) os
-        → get_or ws i [] ≡ take 8 (drop (8 * i) os)
-    word os ws l f = ap (λ (z : List (List ℕ)). get_or z i []) f ∙ chunk_at (length os / 8) i os (omega arith)
-
-    rest : (os : List ℕ) → drop 8 (drop (8 * i) os) ≡ drop (8 * (i + 1)) os
-    rest os = drop-drop 8 (8 * i) os ∙ ap (λ (k : ℕ). drop k os) (omega arith)
-
--- nothing is left after 64 words
-pub unlike_end : (x p : List ℕ) (n : ℕ) → length x ≤ n → length p ≤ n → distance (group_bits 8 (drop n x)) (group_bits 8 (drop n p)) ≡ 0
-unlike_end x p n h k = ap₂ distance (group_bits_end 8 x n h) (group_bits_end 8 p n k) ∙ distance_none []
+-- word by word
+pub unlike_chunks : (k : ℕ) (xs ys : List ℕ) → length xs ≡ k * 8 → length ys ≡ k * 8
+    → sum_by (λ p. distance (group_bits 8 p.0) (group_bits 8 p.1)) (zip (first_chunks 8 k xs) (first_chunks 8 k ys))
+    ≡ distance (group_bits 8 xs) (group_bits 8 ys)
+unlike_chunks zero xs ys lx ly =
+    sym (ap₂ distance (group_bits_end 8 xs 0 (omega arith)) (group_bits_end 8 ys 0 (omega arith)) ∙ distance_none [])
+unlike_chunks (suc k) xs ys lx ly =
+    sum_by-cons (λ (p : List ℕ × List ℕ). distance (group_bits 8 p.0) (group_bits 8 p.1)) (take 8 xs, take 8 ys)
+    (zip (first_chunks 8 k (drop 8 xs)) (first_chunks 8 k (drop 8 ys)))
+    ∙ ap (λ (r : ℕ). distance (group_bits 8 (take 8 xs)) (group_bits 8 (take 8 ys)) + r)
+    (unlike_chunks k (drop 8 xs) (drop 8 ys) (omega (arith, length-drop 8 xs)) (omega (arith, length-drop 8 ys)))
+    ∙ sym (unlike_split 8 xs ys (lx ∙ sym ly))
 
 -- the chips of the pattern are the bits of its octets
 pub unlike_is : (x : List ℕ) → distance (group_bits 8 x) (group_bits 8 (block 0)) ≡ unlike x

@@ -2,11 +2,13 @@
 
 #![tactic(auto)]
 
+mod block;
 mod despreading;
 mod pattern;
 mod refusal;
 mod spreading;
 
+pub use block::BLOCK_OCTETS;
 pub use despreading::despread;
 pub use refusal::BlockRefusal;
 pub use spreading::spread;

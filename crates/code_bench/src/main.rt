@@ -5,50 +5,42 @@
 
 use bch::{decode, encode};
 use std::time::Instant;
-use std::{env, io};
+use std::{array, env, io};
 
 /// A codeword with so many errors, at places that go round with the turn.
 fn damaged(sent: &[u8; 111], errors: usize, turn: usize) -> [u8; 111] {
     let mut word = *sent;
-    for k in 0..errors {
-        word[(turn % 111 + k % 111 * 17) % 111] ^= 1;
+    for place in (0..errors).map(|k| (turn % 111 + k % 111 * 17) % 111) {
+        word[place] ^= 1;
     }
     word
 }
 
 /// A word of pseudorandom bits.
 fn noise(turn: usize) -> [u8; 111] {
-    let mut word = [0; 111];
     let mut state = (turn as u64).wrapping_add(0x9E37_79B9_7F4A_7C15);
-    for i in 0..111usize {
+    array::from_fn(|_| {
         state = state
             .wrapping_mul(6364136223846793005)
             .wrapping_add(1442695040888963407);
-        word[i] = (state >> 63) as u8;
-    }
-    word
+        (state >> 63) as u8
+    })
 }
 
 /// How many places were corrected in so many halves with so many errors.
 fn corrected_places(sent: &[u8; 111], errors: usize, halves: usize) -> u64 {
-    let mut places = 0u64;
-    for turn in 0..halves {
-        if let Ok(corrected) = decode(&damaged(sent, errors, turn)) {
-            places = places.wrapping_add(u64::from(corrected.places));
-        }
-    }
-    places
+    (0..halves)
+        .filter_map(|turn| decode(&damaged(sent, errors, turn)).ok())
+        .fold(0u64, |places, corrected| {
+            places.wrapping_add(u64::from(corrected.places))
+        })
 }
 
 /// How many of so many noisy words lie within six places of a codeword.
-fn found_in_noise(words: usize) -> u64 {
-    let mut found = 0u64;
-    for turn in 0..words {
-        if decode(&noise(turn)).is_ok() {
-            found = found.wrapping_add(1);
-        }
-    }
-    found
+fn found_in_noise(words: usize) -> usize {
+    (0..words)
+        .filter(|turn| decode(&noise(*turn)).is_ok())
+        .count()
 }
 
 /// Prints how long a row of the table took.
@@ -78,6 +70,6 @@ fn main(rt: HostRuntime) -> io::Result<()> {
         report(&rt, name.as_str(), &start, 20000, total)?;
     }
     let start = Instant::now(&rt)?;
-    let total = found_in_noise(20000);
+    let total = found_in_noise(20000) as u64;
     report(&rt, "noise", &start, 20000, total)
 }

@@ -1,7 +1,6 @@
 -- The distance of two words.
-use Rattle.std.proofs.Common.{◌≡◌, ℕ, suc, ◌+◌, ◌-◌, ◌<◌, ◌≤◌, min, max, Bool, true, false, cond, eqb, ◌⊎◌, List, [], ◌∷◌, ◌++◌, length, get_or, drop, sym, refl, ap, ◌∙◌, ap₂, inl, inr, arith, length-drop}
-use Rattle.std.proofs.lemmas.List.{drop_more, drop_all}
-use Rattle.std.proofs.lemmas.Bool.{eq-eqb, ne_eqb, eqb-true, both_ways, cases_lt}
+use Rattle.std.proofs.Common.{◌≡◌, ℕ, suc, ◌+◌, ◌≤◌, Bool, true, false, cond, eqb, List, [], ◌∷◌, ◌++◌, length, sym, refl, ◌∙◌, ap₂, arith}
+use Rattle.std.proofs.lemmas.Bool.{eq-eqb, ne_eqb, eqb-true, both_ways}
 use Rattle.coding.specs.Distance.{distance}
 
 pub distance_none : (ys : List ℕ) → distance [] ys ≡ length ys
@@ -74,31 +73,3 @@ distance_triangle (x ∷ r) (y ∷ u) (z ∷ v) e f =
     by false true false p q s h = omega arith
     by false false true p q s h = omega arith
     by false false false p q s h = omega arith
-
--- a loop over both words from the front: a place where they are alike, and one where they are not
-pub distance_alike : (a b : List ℕ) (i : ℕ) → i < length a → i < length b → get_or a i 0 ≡ get_or b i 0
-    → distance (drop i a) (drop i b) ≡ distance (drop (i + 1) a) (drop (i + 1) b)
-distance_alike a b i h k e =
-    ap₂ distance (drop_more a i 0 h) (drop_more b i 0 k ∙ ap (λ (z : ℕ). z ∷ drop (i + 1) b) (sym e))
-    ∙ distance_same (get_or a i 0) (drop (i + 1) a) (drop (i + 1) b)
-
-pub distance_unlike : (a b : List ℕ) (i : ℕ) → i < length a → i < length b → (get_or a i 0 ≡ get_or b i 0 → ⊥)
-    → distance (drop i a) (drop i b) ≡ suc (distance (drop (i + 1) a) (drop (i + 1) b))
-distance_unlike a b i h k n =
-    ap₂ distance (drop_more a i 0 h) (drop_more b i 0 k) ∙ distance_other (get_or a i 0) (get_or b i 0) (drop (i + 1) a) (drop (i + 1) b) n
-
--- what only one of the words has
-distance_none_right : (xs : List ℕ) → distance xs [] ≡ length xs
-unfolding distance
-distance_none_right [] = refl
-distance_none_right (x ∷ xs) = refl
-
-pub distance_rest : (a b : List ℕ) (i : ℕ) → i ≡ min (length a) (length b)
-    → distance (drop i a) (drop i b) ≡ max (length a) (length b) - min (length a) (length b)
-distance_rest a b i e = by (cases_lt (length a) (length b))
-  where
-    by : (length a < length b) ⊎ (length b ≤ length a)
-        → distance (drop i a) (drop i b) ≡ max (length a) (length b) - min (length a) (length b)
-    by (inl l) =
-        ap (λ (z : List ℕ). distance z (drop i b)) (drop_all i a (omega arith)) ∙ distance_none (drop i b) ∙ simp length-drop (omega arith)
-    by (inr l) = ap (distance (drop i a)) (drop_all i b (omega arith)) ∙ distance_none_right (drop i a) ∙ simp length-drop (omega arith)

@@ -1,12 +1,10 @@
 -- Long division by a polynomial g of degree n.
-use Rattle.std.proofs.Common.{◌≡◌, ℕ, zero, suc, ◌+◌, ◌-◌, ◌*◌, ◌/◌, ◌%◌, ◌^◌, ◌<◌, ◌≤◌, List, [], ◌∷◌, ◌++◌, length, get_or, drop, sym, refl, ap, ◌∙◌, ap₂, div-lt_iff_lt-mul, pow-suc, arith, pow_pos}
+use Rattle.std.proofs.Common.{◌≡◌, ℕ, suc, ◌+◌, ◌*◌, ◌/◌, ◌^◌, ◌<◌, ◌≤◌, List, [], ◌∷◌, ◌++◌, length, get_or, drop, sym, refl, ap, ◌∙◌, ap₂, div-lt_iff_lt-mul, pow-suc, arith, pow_pos}
 use native.Mathlib.Nat.{div-eq_of_lt-le}
-use lib.Bits.{bit_and, bit_xor, and_mask, xor_shr}
+use lib.Bits.{bit_xor, xor_shr}
 use Rattle.std.proofs.lemmas.List.{drop_more, drop_all}
 use Rattle.std.proofs.lemmas.Bool.{cond_below, cond_above}
-use Rattle.coding.specs.Bits.{bits}
 use Rattle.coding.specs.Polynomial.{reduced, remainder}
-use Rattle.coding.proofs.Words.{bits_step}
 
 -- a polynomial of degree n has the quotient 1 by x^n
 pub top_bit : (n p : ℕ) → 2 ^ n ≤ p → p < 2 ^ suc n → p / 2 ^ n ≡ 1
@@ -43,17 +41,6 @@ pub remainder_append : (n g r : ℕ) (xs ys : List ℕ) → remainder n g r (xs 
 unfolding remainder
 remainder_append n g r [] ys = refl
 remainder_append n g r (x ∷ xs) ys = remainder_append n g (reduced n g (bit_xor (r * 2) (x * 2 ^ n))) xs ys
-
--- of the i low bits of x the highest is brought down
-pub remainder_bit : (n g r x i y : ℕ) → 0 < i → y ≡ reduced n g (bit_xor (r * 2) (bit_and (x / 2 ^ (i - 1)) 1 * 2 ^ n))
-    → remainder n g y (bits (i - 1) x) ≡ remainder n g r (bits i x)
-remainder_bit n g r x zero y h e = absurd (omega arith)
-remainder_bit n g r x (suc i) y h e =
-    let j : suc i - 1 ≡ i = omega arith in
-    let b : bit_and (x / 2 ^ (suc i - 1)) 1 ≡ x / 2 ^ i % 2 = and_mask (x / 2 ^ (suc i - 1)) 1 ∙ ap (λ (k : ℕ). x / 2 ^ k % 2) j in
-    ap₂ (λ (z : ℕ) (k : ℕ). remainder n g z (bits k x)) (e ∙ ap (λ (z : ℕ). reduced n g (bit_xor (r * 2) (z * 2 ^ n))) b) j
-    ∙ sym (remainder_more n g r (x / 2 ^ i % 2) (bits i x))
-    ∙ ap (remainder n g r) (sym (bits_step i x))
 
 -- a loop over a word: the coefficient at i is brought down
 pub remainder_at : (n g r : ℕ) (w : List ℕ) (i y : ℕ) → i < length w → y ≡ reduced n g (bit_xor (r * 2) (get_or w i 0 * 2 ^ n))

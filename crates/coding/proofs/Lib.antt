@@ -5,4 +5,3 @@ pub mod Sums
 pub mod Distances
 pub mod Division
 pub mod Quotient
-pub mod Overwriting

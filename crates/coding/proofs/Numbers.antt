@@ -74,18 +74,3 @@ bits_number_after x (b ∷ bs) h =
 
 pub bits_number : (w : List ℕ) (n : ℕ) → length w ≡ n → are_bits w ≡ true → bits n (number w) ≡ w
 bits_number w n e h = ap (λ (k : ℕ). bits k (number w)) (sym e) ∙ bits_number_after 0 w h
-
--- a loop that reads a word
-pub number_more : (w : List ℕ) (i x : ℕ) → i < length w → number_after x (drop i w) ≡ number_after (x * 2 + get_or w i 0) (drop (i + 1) w)
-unfolding number_after
-number_more w i x h = at_drop_more (number_after x) w i 0 h
-
-pub number_all : (w : List ℕ) (i x : ℕ) → length w ≤ i → number_after x (drop i w) ≡ x
-unfolding number_after
-number_all w i x h = at_drop_all (number_after x) w i h
-
--- of a number's low 32 bits, only the low 32 of what the bits are added to count
-pub number_low : (x y : ℕ) (w : List ℕ) → x % 2 ^ 32 ≡ y % 2 ^ 32 → number_after x w % 2 ^ 32 ≡ number_after y w % 2 ^ 32
-unfolding number_after
-number_low x y [] e = e
-number_low x y (b ∷ w) e = number_low (x * 2 + b) (y * 2 + b) w (omega arith)

@@ -1,18 +1,14 @@
 -- Bits of numbers and of octets.
-use Rattle.std.proofs.Common.{◌≡◌, ℕ, zero, suc, ◌+◌, ◌-◌, ◌/◌, ◌%◌, ◌^◌, ◌<◌, ◌≤◌, Bool, true, false, ◌&&◌, ltb, List, [], ◌∷◌, ◌++◌, length, get_or, take, drop, set, sym, refl, ap, ◌∙◌, ap₂, one-add, arith, lit<}
+use Rattle.std.proofs.Common.{◌≡◌, ℕ, zero, suc, ◌+◌, ◌-◌, ◌/◌, ◌%◌, ◌^◌, ◌<◌, ◌≤◌, true, ltb, List, [], ◌∷◌, ◌++◌, length, get_or, take, drop, set, sym, refl, ap, ◌∙◌, ap₂, one-add, arith, lit<}
 use Rattle.std.proofs.lemmas.Nat.{shr-shr}
 use Rattle.std.proofs.lemmas.List.{at_drop_more, at_drop_all}
-use Rattle.std.proofs.lemmas.Bool.{and_parts, and_from, and_left, ltb-true, lt-ltb, le-ltb}
+use Rattle.std.proofs.lemmas.Bool.{and_parts, and_from, ltb-true, lt-ltb}
 use Rattle.coding.specs.Bits.{are_bits, bits, octet_bits}
 
 -- no bits, and the highest of n + 1 bits first
 pub bits_none : (x : ℕ) → bits 0 x ≡ []
 unfolding bits
 bits_none x = refl
-
-pub bits_step : (n x : ℕ) → bits (suc n) x ≡ x / 2 ^ n % 2 ∷ bits n x
-unfolding bits
-bits_step n x = refl
 
 -- the octets from the place i on begin with the bits of the octet there
 pub octet_bits_more : (os : List ℕ) (i : ℕ) → i < length os → octet_bits (drop i os) ≡ bits 8 (get_or os i 0) ++ octet_bits (drop (i + 1) os)
@@ -35,10 +31,6 @@ pub bit_at : (w : List ℕ) → are_bits w ≡ true → (i : ℕ) → get_or w i
 bit_at [] h i = lit< tt
 bit_at (b ∷ bs) h zero = (bits_parts b bs h).0
 bit_at (b ∷ bs) h (suc i) = bit_at bs (bits_parts b bs h).1 i
-
-pub bits_at : (w : List ℕ) → ((i : ℕ) → get_or w i 0 < 2) → are_bits w ≡ true
-bits_at [] h = refl
-bits_at (b ∷ bs) h = bits_join b bs (h 0) (bits_at bs (λ i. h (suc i)))
 
 pub bits_append : (xs ys : List ℕ) → are_bits xs ≡ true → are_bits ys ≡ true → are_bits (xs ++ ys) ≡ true
 bits_append [] ys h g = g
@@ -77,21 +69,6 @@ bits_low zero x = let e : x / 1 % 2 ≡ x % 2 = omega arith in ap (λ (b : ℕ).
 bits_low (suc n) x =
     let e : x / 2 / 2 ^ n ≡ x / 2 ^ suc n = shr-shr x 1 n ∙ ap (λ (k : ℕ). x / 2 ^ k) (one-add n) in
     ap₂ (λ (b : ℕ) (bs : List ℕ). b ∷ bs) (ap (λ (z : ℕ). z % 2) (sym e)) (bits_low n x)
-
--- a loop over a word that looks for what is not a bit
-pub bits_more : (w : List ℕ) (i : ℕ) → i < length w → get_or w i 0 < 2 → are_bits (drop i w) ≡ are_bits (drop (i + 1) w)
-bits_more w i h b =
-    let step : are_bits (drop i w) ≡ (ltb (get_or w i 0) 2 && are_bits (drop (i + 1) w)) = at_drop_more are_bits w i 0 h in
-    let on : ltb (get_or w i 0) 2 ≡ true = lt-ltb (get_or w i 0) 2 b in
-    step ∙ ap (λ (t : Bool). t && are_bits (drop (i + 1) w)) on
-
-pub bits_not : (w : List ℕ) (i : ℕ) → i < length w → 2 ≤ get_or w i 0 → are_bits (drop i w) ≡ false
-bits_not w i h b =
-    let step : are_bits (drop i w) ≡ (ltb (get_or w i 0) 2 && are_bits (drop (i + 1) w)) = at_drop_more are_bits w i 0 h in
-    step ∙ and_left (ltb (get_or w i 0) 2) (are_bits (drop (i + 1) w)) (le-ltb (get_or w i 0) 2 b)
-
-pub bits_all : (w : List ℕ) (i : ℕ) → length w ≤ i → are_bits (drop i w) ≡ true
-bits_all w i h = at_drop_all are_bits w i h
 
 pub bits_drop : (n : ℕ) (xs : List ℕ) → are_bits xs ≡ true → are_bits (drop n xs) ≡ true
 bits_drop zero xs h = h

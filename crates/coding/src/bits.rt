@@ -8,24 +8,13 @@ ghost use Rattle.coding.specs.Distance.{distance as apart};
 pub fn are_bits(word: &[u8]) -> bool
     ensures { result ≡ are_bits word.now }
 {
-    for bit in word {
-        if *bit > 1 {
-            return false;
-        }
-    }
-    true
+    word.iter().all(|bit| *bit < 2)
 }
 
 /// In how many places two words differ; a place that only one of them has is one.
 pub fn distance(a: &[u8], b: &[u8]) -> usize
     ensures { result ≡ apart a.now b.now }
 {
-    let shared = a.len().min(b.len());
-    let mut places = a.len().max(b.len()) - shared;
-    for i in 0..shared {
-        if a[i] != b[i] {
-            places += 1;
-        }
-    }
-    places
+    let differing = a.iter().zip(b).filter(|(x, y)| **x != **y).count();
+    differing + a.len().abs_diff(b.len())
 }

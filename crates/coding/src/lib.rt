@@ -5,12 +5,14 @@
 mod bits;
 mod crc;
 mod laws;
+mod remainders;
 mod values;
 
 pub use bits::{are_bits, distance};
 pub use crc::{crc8, crc8_of_bits};
 pub use laws::division_law;
-pub use values::{read_bits, write_bits};
+pub use remainders::{Divisor, remainder};
+pub use values::{read_bits, read_long, write_bits, write_long};
 
 // The checks below were computed by dividing polynomials as whole numbers, the start's eight ones before the bits.
 #[cfg(test)]

@@ -1,24 +1,32 @@
 //! Numbers to bits and back.
 
-ghost use Rattle.std.specs.Prelude.{◌≡◌, ℕ, ◌/◌, ◌%◌, ◌^◌, length};
+ghost use Rattle.std.specs.Prelude.{◌≡◌, ◌/◌, ◌%◌, ◌^◌, length};
 ghost use Rattle.coding.specs.Bits.{bits as bits_of, number};
 
 /// Fills `out` with the low bits of `value`, the highest first.
 pub fn write_bits(value: u32, out: &mut [u8])
     ensures { out.new ≡ bits_of (length out.old) value }
 {
+    write_long(u64::from(value), out);
+}
+
+/// Fills `out` with the low bits of a long `value`, the highest first.
+pub fn write_long(value: u64, out: &mut [u8])
+    ensures { out.new ≡ bits_of (length out.old) value }
+{
     let n = out.len();
-    for i in 0..n {
-        out[i] = bit_of(value, n - 1 - i);
+    // the place from the end is reckoned: of what a loop over `iter_mut().rev()` writes a proof knows nothing (tried)
+    for (i, bit) in out.iter_mut().enumerate() {
+        *bit = bit_of(value, n - 1 - i);
     }
 }
 
 /// The bit of `value` at 2^`power`.
-fn bit_of(value: u32, power: usize) -> u8
+fn bit_of(value: u64, power: usize) -> u8
     ensures { result ≡ value / 2 ^ power % 2 }
 {
-    if power < 32 {
-        ((value >> power) & 1) as u8
+    if power < 64 {
+        ((value >> power) % 2) as u8
     } else {
         0
     }
@@ -28,9 +36,14 @@ fn bit_of(value: u32, power: usize) -> u8
 pub fn read_bits(bits: &[u8]) -> u32
     ensures { result ≡ number bits.now % 2 ^ 32 }
 {
-    let mut value: u32 = 0;
-    for bit in bits {
-        value = value.wrapping_mul(2).wrapping_add(u32::from(*bit));
-    }
-    value
+    (read_long(bits) % 0x1_0000_0000) as u32
+}
+
+/// The number whose bits these are, the first the highest; of more than 64 bits, its low 64.
+pub fn read_long(bits: &[u8]) -> u64
+    ensures { result ≡ number bits.now % 2 ^ 64 }
+{
+    bits.iter().fold(0u64, |value, bit| {
+        value.wrapping_mul(2).wrapping_add(u64::from(*bit))
+    })
 }

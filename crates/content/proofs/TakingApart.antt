@@ -1,9 +1,7 @@
 -- The one rule of every kind of field.
-use Rattle.std.proofs.Common.{◌≡◌, ℕ, zero, suc, ◌+◌, ◌-◌, ◌*◌, ◌/◌, ◌%◌, ◌^◌, ◌<◌, ◌≤◌, Bool, true, false, cond, ◌&&◌, eqb, leb, List, [], ◌∷◌, ◌++◌, map, length, replicate, Some, None, Ok, Err, Option, Result, sym, refl, ap, ◌∙◌, div-add-mod', arith, lit<}
+use Rattle.std.proofs.Common.{◌≡◌, ℕ, zero, suc, ◌+◌, ◌-◌, ◌*◌, ◌/◌, ◌%◌, ◌^◌, ◌<◌, ◌≤◌, Bool, true, false, cond, ◌&&◌, eqb, leb, List, [], ◌∷◌, ◌++◌, map, length, replicate, Some, None, Option, sym, refl, ap, ◌∙◌, div-add-mod', arith, lit<}
 use lib.Arith.{digits_div, digits_mod}
-use Rattle.std.specs.Result.{result_ok}
 use Rattle.std.specs.List.{AllByRecursion}
-use Rattle.std.proofs.lemmas.List.{length-map, length-append, length-replicate}
 use Rattle.std.proofs.ByRecursion.{All-map, All-weaker, All-append}
 use Rattle.std.proofs.lemmas.Bool.{eq-eqb, ne_eqb, eqb-true, and_parts, and_from, leb-true, and_right, cond-true, cond-false}
 use Rattle.std.proofs.lemmas.Bool.Decides.{nat_tests}
@@ -11,11 +9,10 @@ use Rattle.coding.specs.Bits.{group_bits, groups}
 use Rattle.coding.specs.Distance.{distance}
 use Rattle.coding.proofs.Distances.{distance_self, distance_zero}
 use Rattle.card.specs.Fields.{each, length_within, is_coordinate, is_symbol, extension_inside, is_telephone, is_printing, is_message}
-use Rattle.card.specs.Card.{on_ok}
 use Rattle.card.specs.declared.fields.Coordinate.{Coordinate}
-use Rattle.card.specs.declared.refusal.CardRefusal.{CardRefusal}
 use Rattle.content.specs.Kind.{Kind, taken_apart, TakesApart}
 use Rattle.content.specs.Kinds.{coordinate_kind, latitude_kind, longitude_kind, Lettering, laid_out, before_padding, lettered_kind, telephone_lettering, message_lettering, telephone_kind, message_kind, KindsTakeApart}
+use Rattle.content.proofs.LaidOut.{length_laid}
 use Rattle.coding.proofs.Groups.{length_group_bits, group_bits_bits, groups_of_bits, bits_of_groups}
 
 -- a lawful value comes back from its words
@@ -116,9 +113,7 @@ module _ (lawful : List ℕ → Bool) (l : Lettering) (t : List ℕ) (padded : l
       (all_replicate (λ x. x < 2 ^ l.width) (l.room - length t) l.padding padded)
 
   long : length (laid_out l t) ≡ l.room
-  long =
-      length-append (map l.code t) (replicate (l.room - length t) l.padding)
-      ∙ omega (arith, length-map t l.code, length-replicate (l.room - length t) l.padding)
+  long = length_laid l t short
 
   coded_back : (t : List ℕ) → AllByRecursion (Fitting l) t → map l.character (map l.code t) ≡ t
   coded_back [] a = refl
@@ -201,21 +196,32 @@ module _ {V : Type 0} (k : Kind V) (ws : List ℕ) where
       let other : eqb (distance (k.words (k.value ws)) ws) 0 ≡ false = ne_eqb _ 0 (λ z. n (ap k.words e ∙ distance_zero (k.words (k.value ws)) ws z)) in
       cond-false _ (Some (k.value ws)) None (and_right (k.lawful (k.value ws)) (eqb (distance (k.words (k.value ws)) ws) 0) other)
 
--- a text that was handed to a maker, which answers by whether it is lawful
-module _ {T : Type 0} (seen : T → List ℕ) (t : List ℕ) (answer : Result (Unit {0}) CardRefusal) (r : Result T CardRefusal) (e : on_ok seen r ≡ on_ok (λ _. t) answer) where
-  pub made_is : (v : T) → result_ok r ≡ Some v → seen v ≡ t
-  made_is v h = go r answer e h
+-- the text that words would have, where it is asked whether it is lawful
+module _ (k : Kind (List ℕ)) (ws : List ℕ) where
+  pub none_apart : None ≡ cond (k.lawful (k.value ws)) (Some (k.value ws)) None → taken_apart k ws ≡ None
+  none_apart e = go (k.lawful (k.value ws)) refl
     where
-      go : (r : Result T CardRefusal) (a : Result (Unit {0}) CardRefusal) → on_ok seen r ≡ on_ok (λ _. t) a → result_ok r ≡ Some v → seen v ≡ t
-      go (Ok x) (Ok u) e h = let p : x ≡ v = cc in let q : seen x ≡ t = cc in ap seen (sym p) ∙ q
-      go (Ok x) (Err f) e h = let z : ◌≡◌ {A = ℕ} 0 1 = cc in absurd (omega arith)
-      go (Err f) a e h = let z : ◌≡◌ {A = ℕ} 0 1 = cc in absurd (omega arith)
+      go : (t : Bool) → k.lawful (k.value ws) ≡ t → taken_apart k ws ≡ None
+      go true h =
+          let is : ◌≡◌ {A = Option (List ℕ)} None (Some (k.value ws)) = e ∙ cond-true (k.lawful (k.value ws)) (Some (k.value ws)) None h in
+          let z : ◌≡◌ {A = ℕ} 0 1 = cc in
+          absurd (omega arith)
+      go false h = apart_unlawful k ws h
 
-  pub made_none : (lawful : Bool) → (lawful ≡ true → answer ≡ Ok tt) → result_ok r ≡ None → lawful ≡ false
-  made_none lawful held h = go lawful r answer e h held
+  pub some_asked : (v : List ℕ) → Some v ≡ cond (k.lawful (k.value ws)) (Some (k.value ws)) None → (v ≡ k.value ws) × (k.lawful v ≡ true)
+  some_asked v e = go (k.lawful (k.value ws)) refl
     where
-      go : (l : Bool) (r : Result T CardRefusal) (a : Result (Unit {0}) CardRefusal) → on_ok seen r ≡ on_ok (λ _. t) a → result_ok r ≡ None → (l ≡ true → a ≡ Ok tt) → l ≡ false
-      go false r a e h held = refl
-      go true (Ok x) a e h held = let z : ◌≡◌ {A = ℕ} 0 1 = cc in absurd (omega arith)
-      go true (Err f) (Ok u) e h held = let z : ◌≡◌ {A = ℕ} 0 1 = cc in absurd (omega arith)
-      go true (Err f) (Err g) e h held = let q = held refl in let z : ◌≡◌ {A = ℕ} 0 1 = cc in absurd (omega arith)
+      go : (t : Bool) → k.lawful (k.value ws) ≡ t → (v ≡ k.value ws) × (k.lawful v ≡ true)
+      go true h =
+          let is : ◌≡◌ {A = Option (List ℕ)} (Some v) (Some (k.value ws)) = e ∙ cond-true (k.lawful (k.value ws)) (Some (k.value ws)) None h in
+          let g : v ≡ k.value ws = cc in
+          (g, ap k.lawful g ∙ h)
+      go false h =
+          let is : ◌≡◌ {A = Option (List ℕ)} (Some v) None = e ∙ cond-false (k.lawful (k.value ws)) (Some (k.value ws)) None h in
+          let z : ◌≡◌ {A = ℕ} 0 1 = cc in
+          absurd (omega arith)
+
+-- the characters of the groups that words are cut into are the text that they would have
+pub value_is : (lawful : List ℕ → Bool) (l : Lettering) (ws gs : List ℕ) (width room padding : ℕ) → gs ≡ groups width room (group_bits 24 ws) → l.width ≡ width → room ≡ l.room → l.padding ≡ padding
+    → map l.character (before_padding padding gs) ≡ (lettered_kind lawful l).value ws
+value_is lawful l ws gs width room padding g w r p = cc

@@ -3,3 +3,4 @@ pub mod Kinds
 pub mod Sequence
 pub mod Entries
 pub mod Laws
+pub mod Cut

@@ -1,40 +1,83 @@
 //! The content word of a latitude and of a longitude.
 
-ghost use Rattle.std.specs.Prelude.{◌≡◌, ℕ, ◌+◌, ◌*◌, ◌/◌, ◌%◌, ◌<◌, ◌≤◌, [], ◌∷◌, if◌then◌else◌, Some, None};
+ghost use Rattle.std.specs.Prelude.{◌≡◌, ◌+◌, ◌*◌, ◌/◌, ◌%◌, ◌<◌, ◌≤◌, [], ◌∷◌, if◌then◌else◌, Some, None};
 ghost use Rattle.card.specs.Card.{coordinate};
 ghost use Rattle.card.specs.Fields.{is_coordinate};
 ghost use Rattle.content.specs.Kind.{taken_apart, TakesApart};
 ghost use Rattle.content.specs.Kinds.{latitude_kind, longitude_kind};
 
-use card::Coordinate;
+use card::{Coordinate, MOST_LATITUDE, MOST_LONGITUDE};
 
-const MOST_LATITUDE: u32 = 90;
+/// Of degrees and hundredths as one number, how many hundredths a degree takes.
+const DEGREE: u32 = 10000;
 
-const MOST_LONGITUDE: u32 = 180;
+/// How the coordinates of one kind are laid into a word.
+struct Layout {
+    /// The most degrees.
+    most: u8,
+    /// What the number of degrees and hundredths is multiplied by, to leave room for the hemisphere.
+    scale: u32,
+    ghost room: { 1 < scale },
+    ghost fits: { scale ≤ 16 },
+}
 
-const LATITUDE_SCALE: u32 = 16;
+const LATITUDE: Layout = Layout {
+    most: MOST_LATITUDE,
+    scale: 16,
+};
 
-const LONGITUDE_SCALE: u32 = 8;
+const LONGITUDE: Layout = Layout {
+    most: MOST_LONGITUDE,
+    scale: 8,
+};
+
+impl Layout {
+    /// The word of a coordinate.
+    fn word(&self, place: Coordinate) -> u32
+        ensures { result ≡ (place.degrees * 10000 + place.hundredths) * self.now.scale + place.hemisphere }
+    {
+        let number = u32::from(place.degrees) * DEGREE + u32::from(place.hundredths);
+        number * self.scale + u32::from(place.hemisphere)
+    }
+
+    /// The coordinate that a word holds, if it is lawful.
+    fn coordinate(&self, word: u32) -> Option<Coordinate>
+        ensures { result ≡ (if is_coordinate self.now.most (coordinate (word / self.now.scale / 10000) (word / self.now.scale % 10000) (word % self.now.scale)) then Some (coordinate (word / self.now.scale / 10000) (word / self.now.scale % 10000) (word % self.now.scale)) else None) }
+    {
+        let number = word / self.scale;
+        let hemisphere = word % self.scale;
+        Coordinate::lawful(self.most, number / DEGREE, number % DEGREE, hemisphere)
+    }
+}
+
+// Two calls each way: one with a parameter for the kind would be no plainer, and each is one call of its layout.
 
 /// The word of Content ID 1: 20 bits of degrees and hundredths, 000, the hemisphere.
 pub fn latitude_word(latitude: Coordinate) -> u32
     ensures { result ∷ [] ≡ latitude_kind.words latitude }
 {
-    number_of(latitude) * LATITUDE_SCALE + u32::from(latitude.hemisphere)
+    LATITUDE.word(latitude)
+}
+
+/// The words of Content ID 1: that one.
+pub(crate) fn latitude_words(latitude: Coordinate) -> [u32; 1]
+    ensures { result ≡ latitude_kind.words latitude }
+{
+    [latitude_word(latitude)]
 }
 
 /// The word of Content ID 2: 21 bits of degrees and hundredths, 00, the hemisphere.
 pub fn longitude_word(longitude: Coordinate) -> u32
     ensures { result ∷ [] ≡ longitude_kind.words longitude }
 {
-    number_of(longitude) * LONGITUDE_SCALE + u32::from(longitude.hemisphere)
+    LONGITUDE.word(longitude)
 }
 
-/// Degrees and hundredths as one number.
-fn number_of(p: Coordinate) -> u32
-    ensures { result ≡ p.degrees * 10000 + p.hundredths }
+/// The words of Content ID 2: that one.
+pub(crate) fn longitude_words(longitude: Coordinate) -> [u32; 1]
+    ensures { result ≡ longitude_kind.words longitude }
 {
-    u32::from(p.degrees) * 10000 + u32::from(p.hundredths)
+    [longitude_word(longitude)]
 }
 
 /// The latitude that has this word, if there is one.
@@ -42,7 +85,7 @@ pub fn latitude_of(word: u32) -> Option<Coordinate>
     ensures value { result ≡ taken_apart latitude_kind (word ∷ []) }
     ensures rule { TakesApart latitude_kind }
 {
-    coordinate_of(word, LATITUDE_SCALE, MOST_LATITUDE)
+    LATITUDE.coordinate(word)
 }
 
 /// The longitude that has this word, if there is one.
@@ -50,29 +93,5 @@ pub fn longitude_of(word: u32) -> Option<Coordinate>
     ensures value { result ≡ taken_apart longitude_kind (word ∷ []) }
     ensures rule { TakesApart longitude_kind }
 {
-    coordinate_of(word, LONGITUDE_SCALE, MOST_LONGITUDE)
-}
-
-/// The coordinate that a word holds, if it is lawful where degrees are at most `most`.
-fn coordinate_of(word: u32, scale: u32, most: u32) -> Option<Coordinate>
-    requires { (1 < scale) × (most ≤ 255) }
-    ensures { result ≡ (if is_coordinate most (coordinate (word / scale / 10000) (word / scale % 10000) (word % scale)) then Some (coordinate (word / scale / 10000) (word / scale % 10000) (word % scale)) else None) }
-{
-    let degrees = word / scale / 10000;
-    let hundredths = word / scale % 10000;
-    let hemisphere = word % scale;
-    if degrees > most {
-        return None;
-    }
-    if hundredths > 5999 {
-        return None;
-    }
-    if hemisphere > 1 {
-        return None;
-    }
-    Some(Coordinate {
-        degrees: degrees as u8,
-        hundredths: hundredths as u16,
-        hemisphere: hemisphere as u8,
-    })
+    LONGITUDE.coordinate(word)
 }

@@ -5,6 +5,8 @@
 mod coordinates;
 mod entry;
 mod groups;
+mod lettered;
+mod lettering;
 mod letters;
 mod sequence;
 

@@ -1,17 +1,16 @@
 //! The sequence of a card.
 
-ghost use Rattle.std.specs.Prelude.{◌≡◌, ℕ, ◌+◌, ◌<◌, ◌≤◌, [], ◌∷◌, ◌++◌, length};
-ghost use Rattle.std.specs.Option.{option_map};
+ghost use Rattle.std.specs.Prelude.{◌≡◌, ℕ, ◌+◌, ◌<◌, ◌≤◌, [], ◌∷◌, ◌++◌, length, IfSome, IfNone};
 ghost use Rattle.card.specs.Card.{value_of, symbols_of, octets_of};
-ghost use Rattle.content.specs.Kinds.{latitude_kind, longitude_kind, telephone_kind, message_kind};
-ghost use Rattle.content.specs.Sequence.{numbered, set_of, evened, sequence as sequence_of, round_length};
+ghost use Rattle.content.specs.Kinds.{telephone_kind, message_kind};
+ghost use Rattle.content.specs.Sequence.{numbered, evened, sequence as sequence_of, round_length};
 ghost use Rattle.content.specs.Laws.{SequenceLaws};
 ghost use Rattle.content.specs.Entries.{entries_of, frames_of};
 
-use crate::coordinates::{latitude_word, longitude_word};
+use crate::coordinates::{latitude_words, longitude_words};
 use crate::entry::{Content, Sequence};
 use crate::letters::{message_words, telephone_words};
-use card::{Card, Coordinate, Message, Telephone};
+use card::Card;
 
 /// ID 0, which begins the sequence and evens its count.
 const MARKER: Content = Content {
@@ -19,6 +18,7 @@ const MARKER: Content = Content {
     word: 0x000001,
 };
 
+// Each asks for room, which the entries of a card always have: what would become of others is of no use to promise.
 impl Sequence {
     /// One entry more.
     fn push(&mut self, content: Content)
@@ -36,54 +36,23 @@ impl Sequence {
         ensures len { self.new.len ≡ self.old.len + length words.now }
         ensures entries { entries_of self.new ≡ entries_of self.old ++ numbered first words.now }
     {
-        let mut id = first;
-        for word in words {
-            self.push(Content { id, word: *word });
-            id += 1;
+        for (i, word) in words.iter().enumerate() {
+            self.push(Content {
+                id: first + i as u8,
+                word: *word,
+            });
         }
     }
 
-    /// The latitude's set of IDs, if there is a latitude.
-    fn push_latitude(&mut self, latitude: Option<Coordinate>)
-        requires { self.old.len < 14 }
-        ensures len { self.new.len ≤ self.old.len + 1 }
-        ensures entries { entries_of self.new ≡ entries_of self.old ++ set_of latitude_kind 1 latitude }
+    /// A field's set of IDs, if there is such a field.
+    fn push_field<const N: usize>(&mut self, first: u8, words: Option<[u32; N]>)
+        requires { (self.old.len + N ≤ 14) × (first ≤ 12) }
+        ensures len { self.new.len ≤ self.old.len + N }
+        ensures some { IfSome words.entry (λ ws. entries_of self.new ≡ entries_of self.old ++ numbered first ws) }
+        ensures none { IfNone words.entry (entries_of self.new ≡ entries_of self.old) }
     {
-        if let Some(latitude) = latitude {
-            self.push_set(1, &[latitude_word(latitude)]);
-        }
-    }
-
-    /// The longitude's set of IDs, if there is a longitude.
-    fn push_longitude(&mut self, longitude: Option<Coordinate>)
-        requires { self.old.len < 14 }
-        ensures len { self.new.len ≤ self.old.len + 1 }
-        ensures entries { entries_of self.new ≡ entries_of self.old ++ set_of longitude_kind 2 longitude }
-    {
-        if let Some(longitude) = longitude {
-            self.push_set(2, &[longitude_word(longitude)]);
-        }
-    }
-
-    /// The telephone's set of IDs, if there is a telephone.
-    fn push_telephone(&mut self, telephone: Option<Telephone>)
-        requires { self.old.len + 3 ≤ 14 }
-        ensures len { self.new.len ≤ self.old.len + 3 }
-        ensures entries { entries_of self.new ≡ entries_of self.old ++ set_of telephone_kind 3 (option_map symbols_of telephone) }
-    {
-        if let Some(telephone) = telephone {
-            self.push_set(3, &telephone_words(&telephone));
-        }
-    }
-
-    /// The message's set of IDs, if there is a message.
-    fn push_message(&mut self, message: Option<Message>)
-        requires { self.old.len + 7 ≤ 14 }
-        ensures len { self.new.len ≤ self.old.len + 7 }
-        ensures entries { entries_of self.new ≡ entries_of self.old ++ set_of message_kind 6 (option_map octets_of message) }
-    {
-        if let Some(message) = message {
-            self.push_set(6, &message_words(&message));
+        if let Some(words) = words {
+            self.push_set(first, &words);
         }
     }
 }
@@ -100,10 +69,20 @@ impl Sequence {
             entries: [MARKER; 14],
             len: 1,
         };
-        sequence.push_latitude(card.latitude());
-        sequence.push_longitude(card.longitude());
-        sequence.push_telephone(card.telephone());
-        sequence.push_message(card.message());
+        sequence.push_field(1, card.latitude().map(latitude_words));
+        sequence.push_field(2, card.longitude().map(longitude_words));
+        let telephone = card.telephone().map(
+            |text| -> [u32; 3]
+                ensures { result ≡ telephone_kind.words (symbols_of text) }
+            { telephone_words(&text) },
+        );
+        sequence.push_field(3, telephone);
+        let message = card.message().map(
+            |text| -> [u32; 7]
+                ensures { result ≡ message_kind.words (octets_of text) }
+            { message_words(&text) },
+        );
+        sequence.push_field(6, message);
         sequence.even();
         sequence
     }

@@ -4,7 +4,7 @@ use lib.Bits.{bit_xor}
 use Rattle.std.proofs.lemmas.Bool.{eqb-true}
 use Rattle.field.specs.Field.{by_c, by_power, mul, exp, power, inverse}
 use Rattle.field.proofs.Tables.{every_below, at_each}
-use Rattle.field.proofs.Elements.{by_c_small, comm, assoc, mul_zero', mul_zero_r', mul_exps, exp_whole, exp_small, mul_one, one_mul}
+use Rattle.field.proofs.Elements.{by_c_small, comm, assoc, mul_zero', mul_zero_r', mul_exps, exp_whole, exp_small, exp_pos, mul_one, one_mul}
 use Rattle.field.proofs.Elements.{power_small, inverts}
 
 -- the powers of c
@@ -58,12 +58,12 @@ inverse_only x r h e p =
     sym (one_mul r h) ∙ ap (λ (z : ℕ). mul z r) (sym (inverts x p) ∙ comm x (inverse x)) ∙ assoc (inverse x) x r
     ∙ ap (mul (inverse x)) e ∙ mul_one (inverse x) (power_small x 126)
 
-pub inverse_is : (a k r : ℕ) → a % 128 ≡ exp k → 0 < a % 128 → k < 127 → r ≡ exp (127 - k) → r ≡ inverse a
-inverse_is a k r e p h f =
+pub inverse_is : (a k r : ℕ) → a % 128 ≡ exp k → k < 127 → r ≡ exp (127 - k) → r ≡ inverse a
+inverse_is a k r e h f =
     let s : k + (127 - k) ≡ 127 = omega arith in
     let small : r < 128 = exp_below r (127 - k) f in
     inverse_only a r small
-    (mul_exps a r k (127 - k) e (mod-eq_of_lt small ∙ f) ∙ ap exp s ∙ exp_whole) p
+    (mul_exps a r k (127 - k) e (mod-eq_of_lt small ∙ f) ∙ ap exp s ∙ exp_whole) (omega (arith, e, exp_pos k))
 
 pub inverse_zero : (a : ℕ) → a % 128 ≡ 0 → 0 ≡ inverse a
 unfolding inverse power

@@ -74,10 +74,6 @@ evaluate_more n a r i =
     let e : r / 2 ^ i / 2 ≡ r / 2 ^ suc i = shr-shr r i 1 ∙ ap (λ (k : ℕ). r / 2 ^ k) (add-one i) in
     ap (λ (z : ℕ). bit_xor (r / 2 ^ i % 2) (mul a (evaluate n a z))) e ∙ xor_comm (r / 2 ^ i % 2) (mul a (evaluate n a (r / 2 ^ suc i)))
 
-pub evaluate_none : (a r : ℕ) → evaluate 0 a r ≡ 0
-unfolding evaluate
-evaluate_none a r = refl
-
 -- ---- the value at a of a word
 append_sorted : (b p q v w : ℕ) → bit_xor (mul b (mul p q)) (bit_xor (mul q v) w) ≡ bit_xor (mul q (bit_xor (mul b p) v)) w
 append_sorted b p q v w = simp ring

@@ -1,6 +1,6 @@
 //! Arithmetic of GF(128) by tables of logarithms and powers. A number from 128 on stands for its remainder by 128.
 
-ghost use Rattle.std.specs.Prelude.{◌≡◌, ◌<◌};
+ghost use Rattle.std.specs.Prelude.{◌≡◌, ◌%◌, ◌<◌, MatchOption};
 ghost use Rattle.field.specs.Field.{by_c, mul, exp, inverse as inverse_of};
 
 /// c^0 to c^253, so that a sum of two logarithms needs no reduction.
@@ -42,15 +42,10 @@ pub fn product(a: u8, b: u8) -> u8
     ensures is { result ≡ mul a b }
     ensures small { result < 128 }
 {
-    let x = a % 128;
-    let y = b % 128;
-    if x == 0 {
-        return 0;
+    match (logarithm(a), logarithm(b)) {
+        (Some(i), Some(j)) => power_of_c(i + j),
+        _ => 0,
     }
-    if y == 0 {
-        return 0;
-    }
-    power_of_c(logarithm(x) + logarithm(y))
 }
 
 /// 1/a, and 0 for 0.
@@ -58,11 +53,10 @@ pub fn inverse(a: u8) -> u8
     ensures is { result ≡ inverse_of a }
     ensures small { result < 128 }
 {
-    let x = a % 128;
-    if x == 0 {
-        return 0;
+    match logarithm(a) {
+        Some(k) => power_of_c(127 - k),
+        None => 0,
     }
-    power_of_c(127 - logarithm(x))
 }
 
 /// The product by c.
@@ -81,11 +75,14 @@ fn power_of_c(k: usize) -> u8
     POWERS[k]
 }
 
-/// The k below 127 for which x is c^k.
-fn logarithm(x: u8) -> usize
-    requires { (0 < x) × (x < 128) }
-    ensures is { x ≡ exp result }
-    ensures small { result < 127 }
+/// The k below 127 for which a is c^k. Zero has none.
+fn logarithm(a: u8) -> Option<usize>
+    ensures { MatchOption result (a % 128 ≡ 0) (λ k. (a % 128 ≡ exp k) × (k < 127)) }
 {
-    LOGARITHMS[x as usize] as usize
+    let x = a % 128;
+    if x == 0 {
+        None
+    } else {
+        Some(LOGARITHMS[x as usize] as usize)
+    }
 }

@@ -1,3 +1,4 @@
 pub mod Octets
 pub mod Reading
 pub mod AsSent
+pub mod Filling

@@ -1,6 +1,6 @@
--- The lengths of what is sent, and a buffer filled in parts.
+-- The lengths of what is sent.
 use Rattle.std.proofs.Common.{◌≡◌, ℕ, ◌+◌, ◌*◌, ◌<◌, true, cond, eqb, List, [], ◌∷◌, ◌++◌, length, get_or, take, drop, sym, refl, ap, ◌∙◌, arith}
-use Rattle.std.proofs.lemmas.List.{take_more, drop_all, append-nil, append_assoc, length-append, length-take-le, length-drop}
+use Rattle.std.proofs.lemmas.List.{take_more, append-nil, append_assoc, length-append, length-take-le, length-drop}
 use Rattle.coding.specs.Bits.{are_bits, bits, octet_bits}
 use Rattle.coding.proofs.Words.{length_bits, bits_append, bits_bits, octets_bits}
 use Rattle.content.specs.declared.entry.Content.{Content}
@@ -8,8 +8,6 @@ use Rattle.coding.specs.Crc.{crc8}
 use Rattle.field.specs.Code.{encode, parity}
 use Rattle.frame.specs.Frame.{unique_word, saying, checked, half_bits, frame_bits}
 use Rattle.frame.specs.declared.carried.Frame.{Frame}
-use Rattle.coding.specs.Buffers.{Written}
-use Rattle.coding.proofs.Overwriting.{same_octets, then_written}
 
 pub octet_bits_none : octet_bits [] ≡ []
 unfolding octet_bits
@@ -22,11 +20,6 @@ octet_bits_push (x ∷ os) o = ap (λ (r : List ℕ). bits 8 x ++ r) (octet_bits
 
 pub octet_bits_take : (os : List ℕ) (i : ℕ) → i < length os → octet_bits (take i os) ++ bits 8 (get_or os i 0) ≡ octet_bits (take (i + 1) os)
 octet_bits_take os i h = sym (ap octet_bits (take_more os i 0 h) ∙ octet_bits_push (take i os) (get_or os i 0))
-
--- what fills a buffer from its front is all that it holds
-pub whole : (n : ℕ) (octets before after : List ℕ) → length before ≡ length octets → Written 0 octets before after n → after ≡ octets
-whole n octets before after l w =
-    w.text ∙ ap (λ (r : List ℕ). octets ++ r) (drop_all (0 + length octets) before (omega arith)) ∙ append-nil octets
 
 pub length_octet_bits : (os : List ℕ) → length (octet_bits os) ≡ 8 * length os
 unfolding octet_bits
@@ -49,13 +42,6 @@ length_half os x l =
     let d = checked said in
     length-append d (bits 42 (parity d))
     ∙ omega (arith, length-append said (bits 8 (crc8 said)), length_saying os x l, length_bits 8 (crc8 said), length_bits 42 (parity d))
-
--- three parts that fill a buffer one after the other
-pub three_parts : (u a b o p q r : List ℕ) (i j k : ℕ) → length o ≡ length u + (length a + length b) → Written 0 u o p i → Written i a p q j → Written j b q r k → r ≡ u ++ (a ++ b)
-three_parts u a b o p q r i j k l x y z =
-    let two = then_written 0 i j u a o p q (omega arith) x y in
-    let all = then_written 0 j k (u ++ a) b o q r (omega arith) two z in
-    whole k (u ++ (a ++ b)) o r (l ∙ omega (arith, length-append u (a ++ b), length-append a b)) (same_octets 0 k _ _ o r (append_assoc u a b) all)
 
 half_bits_lem : (os : List ℕ) (x : Content) → are_bits (half_bits os x) ≡ true
 unfolding encode

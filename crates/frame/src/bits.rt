@@ -1,41 +1,31 @@
 //! Writing numbers and octets as bits, one after the other.
 
-ghost use Rattle.std.specs.Prelude.{◌≡◌, ℕ, ◌+◌, ◌*◌, ◌≤◌, length};
+ghost use Rattle.std.specs.Prelude.{◌≡◌, ◌≤◌};
 ghost use Rattle.coding.specs.Bits.{bits as bits_of, octet_bits};
-ghost use Rattle.coding.specs.Buffers.{Written};
+ghost use Rattle.buffers.specs.Buffer.{text_of, appended};
 
+use buffers::Buffer;
 use coding::write_bits;
 
-/// Writes the `width` low bits of `value` from the place `at` on, and says where they end.
-pub(crate) fn put_bits(out: &mut [u8], at: usize, width: usize, value: u32) -> usize
-    requires { at + width ≤ length out.old }
-    ensures end { result ≡ at + width }
-    ensures text { Written at (bits_of width value) out.old out.new result }
+/// The most bits of a number.
+const LONGEST: usize = 32;
+
+/// Appends the `width` low bits of `value`, as far as there is room.
+pub(crate) fn append_number<const N: usize>(bits: &mut Buffer<N>, width: usize, value: u32)
+    requires { width ≤ 32 }
+    ensures { text_of bits.new ≡ appended N (text_of bits.old) (bits_of width value) }
 {
-    let end = at + width;
-    write_bits(value, &mut out[at..end]);
-    end
+    let mut room = [0; LONGEST];
+    let number = &mut room[..width];
+    write_bits(value, number);
+    bits.extend(number);
 }
 
-/// Writes the bits of octets from the place `at` on, and says where they end.
-pub(crate) fn put_octets(out: &mut [u8], at: usize, octets: &[u8]) -> usize
-    requires { at + 8 * length octets.now ≤ length out.old }
-    ensures end { result ≡ at + 8 * length octets.now }
-    ensures text { Written at (octet_bits octets.now) out.old out.new result }
+/// Appends the bits of octets, as far as there is room.
+pub(crate) fn append_octets<const N: usize>(bits: &mut Buffer<N>, octets: &[u8])
+    ensures { text_of bits.new ≡ appended N (text_of bits.old) (octet_bits octets.now) }
 {
-    let mut end = at;
     for octet in octets {
-        end = put_bits(out, end, 8, u32::from(*octet));
+        append_number(bits, 8, u32::from(*octet));
     }
-    end
-}
-
-/// Writes bits from the place `at` on, and says where they end.
-pub(crate) fn put_word(out: &mut [u8], at: usize, word: &[u8]) -> usize
-    requires { at + length word.now ≤ length out.old }
-    ensures { Written at word.now out.old out.new result }
-{
-    let end = at + word.len();
-    out[at..end].copy_from_slice(word);
-    end
 }

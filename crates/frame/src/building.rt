@@ -5,9 +5,10 @@ ghost use Rattle.card.specs.Card.{value_of};
 ghost use Rattle.frame.specs.Frame.{frame_of, frame_bits};
 ghost use Rattle.frame.specs.Judging.{JudgedAsSent};
 
-use crate::bits::{put_bits, put_word};
-use crate::carried::Frame;
-use crate::half::half_bits;
+use crate::bits::append_number;
+use crate::carried::{FRAME_BITS, Frame};
+use crate::half::Said;
+use buffers::Buffer;
 use card::Card;
 use content::Sequence;
 
@@ -37,19 +38,12 @@ impl Frame {
         ensures is { result ≡ frame_bits self.now }
         ensures sent { JudgedAsSent }
     {
-        let mut out = [0; 244];
-        let end = put_bits(&mut out, 0, 22, unique_word(self.unique));
-        let end = put_word(
-            &mut out,
-            end,
-            &half_bits(high(&self.identifier), self.first),
-        );
-        put_word(
-            &mut out,
-            end,
-            &half_bits(low(&self.identifier), self.second),
-        );
-        out
+        let (high, low) = halves(&self.identifier);
+        let mut bits = Buffer::<FRAME_BITS>::new();
+        append_number(&mut bits, 22, unique_word(self.unique));
+        bits.extend(&Said::of(&high, self.first).coded());
+        bits.extend(&Said::of(&low, self.second).coded());
+        *bits.as_array()
     }
 }
 
@@ -75,18 +69,11 @@ fn entry_of(number: u32, frames: usize) -> usize
     2 * (number as usize % frames)
 }
 
-/// The octets of half 1.
-fn high(identifier: &[u8; 8]) -> &[u8]
-    ensures len { length result.now ≡ 4 }
-    ensures value { result.now ≡ take 4 identifier.now }
+/// The octets of half 1, and those of half 2.
+fn halves(identifier: &[u8; 8]) -> ([u8; 4], [u8; 4])
+    ensures high { result.0 ≡ take 4 identifier.now }
+    ensures low { result.1 ≡ drop 4 identifier.now }
 {
-    &identifier[0..4]
-}
-
-/// The octets of half 2.
-fn low(identifier: &[u8; 8]) -> &[u8]
-    ensures len { length result.now ≡ 4 }
-    ensures value { result.now ≡ take 4 (drop 4 identifier.now) }
-{
-    &identifier[4..8]
+    let [a, b, c, d, e, f, g, h] = *identifier;
+    ([a, b, c, d], [e, f, g, h])
 }

@@ -3,15 +3,14 @@
 ghost use Rattle.std.specs.Prelude.{◌≡◌, ℕ, ◌+◌, ◌≤◌, true, ◌++◌, length, take, drop};
 ghost use Rattle.coding.specs.Bits.{are_bits, bits as bits_of, number};
 ghost use Rattle.coding.specs.Distance.{distance as distance_of};
-ghost use Rattle.frame.specs.Judging.{unique_of, understood as understood_of, checked_half, judged_half, judged};
+ghost use Rattle.frame.specs.Judging.{unique_of, checked_half, judged_half, judged};
 
-use crate::bits::put_word;
 use crate::building::{EVEN, ODD};
 use crate::carried::{Frame, Half};
+use crate::half::Said;
 use crate::refusal::FrameRefusal;
 use bch::decode;
-use coding::{crc8_of_bits, distance, read_bits, write_bits};
-use content::Content;
+use coding::{distance, read_bits, write_bits};
 
 /// How many places a unique word may differ in.
 const RADIUS: usize = 6;
@@ -57,10 +56,9 @@ fn differences(word: &[u8], unique: u32) -> usize
 fn joined(high: &[u8; 4], low: &[u8; 4]) -> [u8; 8]
     ensures { result ≡ high.now ++ low.now }
 {
-    let mut octets = [0; 8];
-    let end = put_word(&mut octets, 0, high);
-    put_word(&mut octets, end, low);
-    octets
+    let [a, b, c, d] = *high;
+    let [e, f, g, h] = *low;
+    [a, b, c, d, e, f, g, h]
 }
 
 /// What a half carries: the codeword within six places, and its CRC right.
@@ -68,9 +66,9 @@ fn judge_half(half: u8, bits: &[u8]) -> Result<Half, FrameRefusal>
     requires { length bits.now ≡ 111 }
     ensures { result ≡ judged_half half bits.now }
 {
-    let mut word = [0; 111];
-    word.copy_from_slice(bits);
-    let corrected = decode(&word).ok().ok_or(FrameRefusal::Codeword { half })?;
+    let codeword = FrameRefusal::Codeword { half };
+    let word = <[u8; 111]>::try_from(bits).ok().ok_or(codeword)?;
+    let corrected = decode(&word).ok().ok_or(codeword)?;
     check_half(half, &corrected.codeword)
 }
 
@@ -79,37 +77,9 @@ fn check_half(half: u8, codeword: &[u8; 111]) -> Result<Half, FrameRefusal>
     requires { are_bits codeword.now ≡ true }
     ensures { result ≡ checked_half half codeword.now }
 {
-    let crc = crc8_of_bits(&codeword[0..61]).unwrap_or(0);
-    if read_bits(&codeword[61..69]) != u32::from(crc) {
+    let said = Said::of_codeword(codeword);
+    if read_bits(&codeword[61..69]) != u32::from(said.check()) {
         return Err(FrameRefusal::Crc { half });
     }
-    Ok(understood(&codeword[0..61]))
-}
-
-/// What the 61 bits of a half say.
-fn understood(said: &[u8]) -> Half
-    requires { (length said.now ≡ 61) × (are_bits said.now ≡ true) }
-    ensures { result ≡ understood_of said.now }
-{
-    Half {
-        octets: [
-            small_at(said, 0, 8),
-            small_at(said, 8, 8),
-            small_at(said, 16, 8),
-            small_at(said, 24, 8),
-        ],
-        content: Content {
-            id: small_at(said, 32, 5),
-            word: read_bits(&said[37..61]),
-        },
-    }
-}
-
-/// The number of at most eight bits from a place on.
-fn small_at(said: &[u8], at: usize, width: usize) -> u8
-    requires { (at + width ≤ length said.now) × ((width ≤ 8) × (are_bits said.now ≡ true)) }
-    ensures { result ≡ number (take width (drop at said.now)) }
-{
-    let end = at + width;
-    read_bits(&said[at..end]) as u8
+    Ok(said.understood())
 }

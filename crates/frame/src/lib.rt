@@ -9,6 +9,6 @@ mod half;
 mod judging;
 mod refusal;
 
-pub use carried::{Frame, Half};
+pub use carried::{FRAME_BITS, Frame, Half};
 pub use judging::judge;
 pub use refusal::FrameRefusal;

@@ -1,12 +1,10 @@
 //! What is refused of received frames, and with which number.
 
-ghost use Rattle.std.specs.Prelude.{◌≡◌};
-ghost use Rattle.frame.specs.Refusals.{number_of, half_of, place_of};
+ghost use Rattle.frame.specs.Refusals.{report_of};
 
-/// Stands where a refusal has no half, or no place.
-const NONE: u8 = 0;
+use reports::{Refusal, Report};
 
-/// Why received bits are no frame.
+/// Why received bits are no frame. A half stays the number, 1 or 2, that is reported: it is public, and any number may stand there.
 #[derive(Clone, Copy, PartialEq, Eq, Debug)]
 pub enum FrameRefusal {
     /// Neither unique word lies within six places.
@@ -17,33 +15,14 @@ pub enum FrameRefusal {
     Crc { half: u8 },
 }
 
-impl FrameRefusal {
-    /// The refusal's number.
-    pub fn number(self) -> u8
-        ensures { result ≡ number_of self }
-    {
-        match self {
-            FrameRefusal::UniqueWord => 16,
-            FrameRefusal::Codeword { .. } => 17,
-            FrameRefusal::Crc { .. } => 18,
-        }
-    }
+impl Refusal for FrameRefusal {
+    ghost report_of = { report_of };
 
-    /// The half that is meant, 1 or 2; 0 where the whole frame is.
-    pub fn half(self) -> u8
-        ensures { result ≡ half_of self }
-    {
+    fn report(self) -> Report {
         match self {
-            FrameRefusal::UniqueWord => NONE,
-            FrameRefusal::Codeword { half } => half,
-            FrameRefusal::Crc { half } => half,
+            FrameRefusal::UniqueWord => Report::number_alone(16),
+            FrameRefusal::Codeword { half } => Report::in_half(17, half),
+            FrameRefusal::Crc { half } => Report::in_half(18, half),
         }
-    }
-
-    /// The place that is meant: 0, as there is none.
-    pub fn place(self) -> u8
-        ensures { result ≡ place_of self }
-    {
-        NONE
     }
 }

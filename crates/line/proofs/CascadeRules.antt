@@ -1,11 +1,11 @@
 -- A cascade of two lines that keep the rules keeps the rules.
-use Rattle.std.proofs.Common.{◌≡◌, ℕ, ◌-◌, ◌≤◌, Bool, true, false, cond, eqb, List, ◌++◌, length, take, Some, None, Ok, Result, sym, refl, ap, ◌∙◌, le_trans, lit<}
+use Rattle.std.proofs.Common.{◌≡◌, ℕ, ◌≤◌, Bool, true, false, cond, eqb, List, length, Some, None, Ok, Result, sym, refl, ap, ◌∙◌, le_trans, lit<}
 use Rattle.std.proofs.lemmas.Bool.{and_parts, eqb-true}
 use Rattle.line.specs.Line.{Model, Word, LineRules}
 use Rattle.line.specs.declared.refusal.LineRefusal.{LineRefusal}
 use Rattle.line.specs.Calls.{fits, middle_of, encode_answer, encode_output, decode_answer, decode_output}
 use Rattle.line.specs.Stages.{cascade}
-use Rattle.line.proofs.Answers.{encode_done, decode_done, decode_ok, decode_written, le_front, take_front}
+use Rattle.line.proofs.Answers.{encodes, decodes, decode_ok, decode_written}
 
 module _ (u d : Model) (ru : LineRules u) (rd : LineRules d) where
   upper_takes : (n : ℕ) → (cascade u d).takes n ≡ true → u.takes n ≡ true
@@ -52,70 +52,50 @@ module _ (u d : Model) (ru : LineRules u) (rd : LineRules d) where
   pub in_room : (n k l : ℕ) → Some l ≡ middle_of u d n k → l ≤ 4096
   in_room n k l e = let p = fit n k l e in rw p.2 at (ru.short n (upper_takes n p.0)).1
 
-  -- Encode: the upper line wrote y, the front of the room, and answered r.
+  -- Encode: the upper line wrote y into a room.
   module _ (w : List ℕ) (k l : ℕ) (found : Some l ≡ middle_of u d (length w) k)
-      (room y : List ℕ) (r : Result (Unit {0}) LineRefusal)
-      (answer : r ≡ encode_answer u w 0 room) (ok : r ≡ Ok tt) (output : y ≡ encode_output u w 0 room) where
+      (room y : List ℕ) (ok : Ok tt ≡ encode_answer u w 0 room) (output : y ≡ encode_output u w 0 room) where
     word : Word (length w) w
-    word = (refl, (encode_done u w 0 room y r answer ok output).0)
+    word = (refl, (encodes u w 0 room ok).are_bits)
 
     encoded : y ≡ u.encode w 0
-    encoded = (encode_done u w 0 room y r answer ok output).1
+    encoded = output ∙ (encodes u w 0 room ok).output
 
     taken_word : (cascade u d).takes (length w) ≡ true
     taken_word = (fit (length w) k l found).0
 
-    encoded_length : length y ≡ l
-    encoded_length = ap length encoded ∙ (middle (length w) w taken_word word).0 ∙ (fit (length w) k l found).2
-
-    pub encoded_part : (rest : List ℕ) → l ≤ length (y ++ rest)
-    encoded_part rest = le_front l y rest encoded_length
-
-    front : (rest : List ℕ) → take (l - 0) (y ++ rest) ≡ u.encode w 0
-    front rest = take_front l y rest encoded_length ∙ encoded
-
     -- what the lower line then answers and writes is the cascade's
-    pub encode_all : (rest : List ℕ) (last : ℕ) (o out : List ℕ) (r' : Result (Unit {0}) LineRefusal) →
-        r' ≡ encode_answer d (take (l - 0) (y ++ rest)) last o → out ≡ encode_output d (take (l - 0) (y ++ rest)) last o →
-        (r' ≡ encode_answer (cascade u d) w last o) × (out ≡ encode_output (cascade u d) w last o)
-    encode_all rest last o out r' a is =
+    pub encode_all : (last : ℕ) (o out : List ℕ) (r : Result (Unit {0}) LineRefusal) →
+        r ≡ encode_answer d y last o → out ≡ encode_output d y last o →
+        (r ≡ encode_answer (cascade u d) w last o) × (out ≡ encode_output (cascade u d) w last o)
+    encode_all last o out r a is =
         let m = middle (length w) w taken_word word in (
-          a ∙ rw (front rest, m.0, m.1, word.1, upper_takes (length w) taken_word),
-          is ∙ rw (front rest, m.0, m.1, word.1, upper_takes (length w) taken_word),
+          a ∙ rw (encoded, m.0, m.1, word.1, upper_takes (length w) taken_word),
+          is ∙ rw (encoded, m.0, m.1, word.1, upper_takes (length w) taken_word),
         )
 
-  -- Decode: the lower line wrote y, the front of the room, and answered r.
+  -- Decode: the lower line wrote y into a room.
   module _ (x o : List ℕ) (l : ℕ) (found : Some l ≡ middle_of u d (length o) (length x))
-      (room y : List ℕ) (r : Result (Unit {0}) LineRefusal)
-      (answer : r ≡ decode_answer d x room) (ok : r ≡ Ok tt) (output : y ≡ decode_output d x room) where
+      (room y : List ℕ) (ok : Ok tt ≡ decode_answer d x room) (output : y ≡ decode_output d x room) where
     decoded : y ≡ d.decode x
-    decoded = (decode_done d x room y r answer ok output).1
+    decoded = output ∙ (decodes d x room ok).output
 
     taken_line : (cascade u d).takes (length o) ≡ true
     taken_line = (fit (length o) (length x) l found).0
 
     line : Word ((cascade u d).line_length (length o)) x
-    line = (sym (fit (length o) (length x) l found).1, (decode_done d x room y r answer ok output).0)
-
-    decoded_length : length y ≡ l
-    decoded_length = ap length decoded ∙ (middle_back (length o) x taken_line line).0 ∙ (fit (length o) (length x) l found).2
-
-    pub decoded_part : (rest : List ℕ) → l ≤ length (y ++ rest)
-    decoded_part rest = le_front l y rest decoded_length
-
-    front_back : (rest : List ℕ) → take (l - 0) (y ++ rest) ≡ d.decode x
-    front_back rest = take_front l y rest decoded_length ∙ decoded
+    line = (sym (fit (length o) (length x) l found).1, (decodes d x room ok).are_bits)
 
     -- what the upper line then answers and writes is the cascade's
-    pub decode_all : (rest out : List ℕ) (r' : Result (Unit {0}) LineRefusal) →
-        r' ≡ decode_answer u (take (l - 0) (y ++ rest)) o → out ≡ decode_output u (take (l - 0) (y ++ rest)) o →
-        (r' ≡ decode_answer (cascade u d) x o) × (out ≡ decode_output (cascade u d) x o)
-    decode_all rest out r' a is =
+    pub decode_all : (out : List ℕ) (r : Result (Unit {0}) LineRefusal) →
+        r ≡ decode_answer u y o → out ≡ decode_output u y o →
+        (r ≡ decode_answer (cascade u d) x o) × (out ≡ decode_output (cascade u d) x o)
+    decode_all out r a is =
         let m = middle_back (length o) x taken_line line in
         let up = upper_takes (length o) taken_line in (
-          a ∙ rw (front_back rest)
+          a ∙ rw decoded
               (sym (decode_ok u (d.decode x) o up (sym m.0) m.1) ∙ decode_ok (cascade u d) x o taken_line (sym line.0) line.1),
-          is ∙ rw (front_back rest)
+          is ∙ rw decoded
               (sym (decode_written u (d.decode x) o up (sym m.0) m.1 _ refl)
               ∙ decode_written (cascade u d) x o taken_line (sym line.0) line.1 _ refl),
         )

@@ -1,7 +1,7 @@
 -- Repetition keeps the rules of a line.
-use Rattle.std.proofs.Common.{◌≡◌, ℕ, ◌+◌, ◌-◌, ◌*◌, ◌/◌, ◌<◌, ◌≤◌, true, List, ◌++◌, length, get_or, sym, refl, ap, ◌∙◌, ⊎_elim, arith, length-append}
-use Rattle.std.proofs.lemmas.List.{ext_get_or, get_or_append_left, get_or-append-add}
-use Rattle.std.proofs.lemmas.Bool.{leb-true, cases_lt}
+use Rattle.std.proofs.Common.{◌≡◌, ℕ, ◌+◌, ◌*◌, ◌/◌, ◌<◌, ◌≤◌, true, List, ◌++◌, length, get_or, sym, refl, ap, ◌∙◌, arith, length-append}
+use Rattle.std.proofs.lemmas.List.{get_or_append_left, get_or-append-add}
+use Rattle.std.proofs.lemmas.Bool.{leb-true}
 use Rattle.std.proofs.lemmas.Bool.Decides.{nat_tests}
 use Rattle.coding.specs.Bits.{are_bits}
 use Rattle.coding.specs.Distance.{distance}
@@ -106,24 +106,3 @@ repetition_rules = record {
   rising = λ j k h. omega arith;
   near = λ n w last x _ word _ line. near w x word.1 line.1 (line.0 ∙ ap (λ (k : ℕ). 4 * k) (sym word.0));
 }
-
--- what has the word at each of the four quarters is the word four times over
-pub copies_from : (w out : List ℕ) → length out ≡ 4 * length w →
-    ((k : ℕ) → k < length w → (get_or out k 0 ≡ get_or w k 0) × (get_or out (length w + k) 0 ≡ get_or w k 0)
-    × (get_or out (2 * length w + k) 0 ≡ get_or w k 0) × (get_or out (3 * length w + k) 0 ≡ get_or w k 0)) →
-    out ≡ repetition.encode w 0
-copies_from w out l f = ext_get_or 0 out (copies w) (l ∙ sym (copies_length w)) place
-  where
-    at : (i j k : ℕ) → i ≡ j → i ≡ k → get_or out j 0 ≡ get_or (copies w) k 0 → get_or out i 0 ≡ get_or (copies w) i 0
-    at i j k p q e = ap (λ (z : ℕ). get_or out z 0) p ∙ e ∙ ap (λ (z : ℕ). get_or (copies w) z 0) (sym q)
-
-    place : (i : ℕ) → i < length out → get_or out i 0 ≡ get_or (copies w) i 0
-    place i h =
-        ⊎_elim (λ a. (f i a).0 ∙ sym (copy_0 w i a)) (λ a.
-        ⊎_elim (λ b. let k : i - length w < length w = omega arith in
-        at i _ _ (omega arith) (omega arith) ((f (i - length w) k).1 ∙ sym (copy_1 w (i - length w) k))) (λ b.
-        ⊎_elim (λ c. let k : i - 2 * length w < length w = omega arith in
-        at i _ _ (omega arith) (omega arith) ((f (i - 2 * length w) k).2 ∙ sym (copy_2 w (i - 2 * length w) k))) (λ c.
-        let k : i - 3 * length w < length w = omega arith in
-        at i _ _ (omega arith) (omega arith) ((f (i - 3 * length w) k).3 ∙ sym (copy_3 w (i - 3 * length w) k)))
-        (cases_lt i (3 * length w))) (cases_lt i (2 * length w))) (cases_lt i (length w))

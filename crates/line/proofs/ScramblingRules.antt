@@ -1,11 +1,14 @@
 -- The scrambling sequence keeps its recurrence, and scrambling keeps the rules of a line.
-use Rattle.std.proofs.Common.{◌≡◌, ℕ, zero, suc, ◌+◌, ◌-◌, ◌<◌, ◌≤◌, true, ltb, List, [], ◌∷◌, length, get_or, sym, refl, ap, ◌∙◌, suc-add, arith, lit<}
-use Rattle.std.proofs.lemmas.Bool.{leb-true, cond_both, lt-ltb, le-ltb}
+use Rattle.std.proofs.Common.{◌≡◌, ℕ, zero, suc, ◌+◌, ◌-◌, ◌<◌, ◌≤◌, min, true, ltb, List, [], ◌∷◌, ◌++◌, map, length, get_or, take, drop, sym, refl, ap, ◌∙◌, ap₂, ⊎_elim, suc-add, arith, lit<, length-append, length-drop}
+use Rattle.std.specs.List.{range_with_len}
+use Rattle.std.proofs.lemmas.List.{length-take-le, get_or_append_left, get_or-append_right, get_or-take, get_or-drop}
+use Rattle.std.proofs.lemmas.List.FromFn.{fill_by_all, get_or-map-range_with_len, map-range_with_len_more}
+use Rattle.std.proofs.lemmas.Bool.{leb-true, cond_both, lt-ltb, le-ltb, cases_lt}
 use Rattle.std.proofs.lemmas.Bool.Decides.{nat_tests}
 use Rattle.coding.specs.Bits.{are_bits, plus, bits}
 use Rattle.coding.specs.Distance.{distance}
 use Rattle.line.specs.Line.{LineRules}
-use Rattle.line.specs.Stages.{shifted, sequence, mask, scrambled, scrambling}
+use Rattle.line.specs.Stages.{listed, shifted, sequence, mask, scrambled, scrambling}
 use Rattle.line.specs.Laws.{ScramblingSequence}
 use Rattle.line.proofs.Sums.{apart, total, total_le, distance_total, bit_at, bits_listed, length_listed, get_d_listed, plus_bit}
 
@@ -74,32 +77,64 @@ scrambling_rules = record {
 
 -- the register holds nine neighbours of the sequence
 abbrev pub window : ℕ → List ℕ
-window m =
-    sequence m ∷ sequence (m + 1) ∷ sequence (m + 2) ∷ sequence (m + 3) ∷ sequence (m + 4)
-    ∷ sequence (m + 5) ∷ sequence (m + 6) ∷ sequence (m + 7) ∷ sequence (m + 8) ∷ []
-
-pub window_step : (m n v : ℕ) (s : List ℕ) → s ≡ window m → n ≡ m + 1 → v ≡ sequence (m + 9) →
-    get_or s 1 0 ∷ get_or s 2 0 ∷ get_or s 3 0 ∷ get_or s 4 0 ∷ get_or s 5 0 ∷ get_or s 6 0 ∷ get_or s 7 0 ∷ get_or s 8 0 ∷ v ∷ [] ≡ window n
-window_step m n v s e q new =
-    let e1 : n + 1 ≡ m + 2 = omega arith in
-    let e2 : n + 2 ≡ m + 3 = omega arith in
-    let e3 : n + 3 ≡ m + 4 = omega arith in
-    let e4 : n + 4 ≡ m + 5 = omega arith in
-    let e5 : n + 5 ≡ m + 6 = omega arith in
-    let e6 : n + 6 ≡ m + 7 = omega arith in
-    let e7 : n + 7 ≡ m + 8 = omega arith in
-    let e8 : n + 8 ≡ m + 9 = omega arith in
-    rw (e, e1, e2, e3, e4, e5, e6, e7, e8, q, new)
+window m = map sequence (range_with_len m 9)
 
 pub window_start : 0 ∷ 0 ∷ 1 ∷ 0 ∷ 0 ∷ 0 ∷ 0 ∷ 0 ∷ 1 ∷ [] ≡ window 0
 unfolding shifted
 window_start = refl
 
+-- the sum of the oldest and the fifth is the next of the sequence
 pub window_next : (m : ℕ) (s : List ℕ) → s ≡ window m → plus (get_or s 0 0) (get_or s 4 0) ≡ sequence (m + 9)
-window_next m s e = rw (e, sequence_nine m)
+window_next m s e =
+    let fifth = get_or-map-range_with_len sequence m 9 4 (m + 4) 0 (lit< tt) refl in
+    rw e (rw fifth (sym (sequence_nine m)))
+
+-- the oldest goes, and the next comes in
+pub window_step : (m v : ℕ) (s : List ℕ) → s ≡ window m → v ≡ sequence (m + 9) → drop 1 s ++ (v ∷ []) ≡ window (m + 1)
+window_step m v s e next = rw (e, next) (sym (map-range_with_len_more sequence (m + 1) 8 (m + 9) (omega arith)))
 
 pub mask_low : (i : ℕ) → i < 22 → mask i ≡ 0
 mask_low i h = rw (lt-ltb i 22 h)
 
 pub mask_high : (i : ℕ) → 22 ≤ i → mask i ≡ sequence (i - 22 + 9)
 mask_high i h = rw (le-ltb i 22 h)
+
+-- the first bits as they are, and the sequence added to those after
+pub parts_scrambled : (w z : List ℕ) (n : ℕ) → are_bits w ≡ true → n ≡ min (length w) 22 →
+    z ≡ listed (λ i. plus (get_or (drop n w) i 0) (sequence (i + 9))) (length (drop n w)) → take n w ++ z ≡ scrambled w
+parts_scrambled w z n hw e is = fill_by_all f (take n w ++ z) (length w) 0 long place
+  where
+    f : ℕ → ℕ
+    f i = plus (get_or w i 0) (mask i)
+
+    g : ℕ → ℕ
+    g i = plus (get_or (drop n w) i 0) (sequence (i + 9))
+
+    front : length (take n w) ≡ n
+    front = length-take-le n w (omega arith)
+
+    back : length z ≡ length w - n
+    back = ap length is ∙ length_listed g (length (drop n w)) ∙ length-drop n w
+
+    long : length (take n w ++ z) ≡ length w
+    long = omega (arith, length-append (take n w) z, front, back)
+
+    place : (k : ℕ) → k < length w → get_or (take n w ++ z) k 0 ≡ f k
+    place k h = ⊎_elim first after (cases_lt k n)
+      where
+        first : k < n → get_or (take n w ++ z) k 0 ≡ f k
+        first l =
+            let low : k < 22 = omega arith in
+            get_or_append_left (take n w) z 0 k (omega (arith, front))
+            ∙ get_or-take n w k 0 l
+            ∙ omega (arith, mask_low k low, bit_at w hw k)
+
+        after : n ≤ k → get_or (take n w ++ z) k 0 ≡ f k
+        after l =
+            let high : 22 ≤ k = omega arith in
+            let same : k - n + 9 ≡ k - 22 + 9 = omega arith in
+            let at : n + (k - n) ≡ k = omega arith in
+            get_or-append_right (take n w) z n k 0 front l
+            ∙ ap (λ (y : List ℕ). get_or y (k - n) 0) is
+            ∙ get_d_listed g (length (drop n w)) (k - n) (omega (arith, length-drop n w))
+            ∙ ap₂ plus (get_or-drop n w (k - n) 0 ∙ ap (λ (i : ℕ). get_or w i 0) at) (ap sequence same ∙ sym (mask_high k high))

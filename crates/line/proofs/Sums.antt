@@ -2,7 +2,6 @@
 use Rattle.std.proofs.Common.{◌≡◌, ℕ, zero, suc, ◌+◌, ◌*◌, ◌<◌, ◌≤◌, true, cond, eqb, ltb, List, [], ◌∷◌, ◌++◌, length, get_or, set, refl, ap, suc-add, zero-add, arith}
 use Rattle.std.proofs.lemmas.Bool.{ltb-true, and_parts, and_from, lt-ltb}
 use Rattle.std.proofs.lemmas.Bool.Decides.{nat_tests}
-use Rattle.std.proofs.lemmas.List.Edits.{fill_by_more}
 use Rattle.std.proofs.lemmas.List.FromFn.{length-map-range_with_len, get_or-map-range_with_len}
 use Rattle.coding.specs.Bits.{are_bits, plus}
 use Rattle.coding.specs.Distance.{distance}
@@ -88,8 +87,3 @@ plus_bit a b = omega arith
 
 pub plus_apart : (a b c d : ℕ) → a < 2 → b < 2 → c < 2 → d < 2 → apart (plus a b) (plus c d) ≤ apart a c + apart b d
 plus_apart a b c d ha hb hc hd = grind (arith, nat_tests)
-
--- a loop that writes f k at each place k goes one place on
-pub fill_step : (f : ℕ → ℕ) (xs out : List ℕ) (i v : ℕ) → i < length xs → v ≡ f i → out ≡ set xs i v →
-    ((k : ℕ) → k < i → get_or xs k 0 ≡ f k) → (k : ℕ) → k < i + 1 → get_or out k 0 ≡ f k
-fill_step f xs out i v l e is h k lt = rw (is, e) (fill_by_more f xs i 0 l h k lt)

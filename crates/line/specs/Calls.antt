@@ -1,5 +1,6 @@
 -- What the calls of a line answer and leave behind, in every case.
 use Rattle.std.specs.Prelude.{ℕ, Bool, cond, ◌&&◌, List, length, Some, None, Ok, Err, Option, Result, ◌==◌, nat_lt}
+use Rattle.reports.specs.declared.report.Report.{Report}
 use Rattle.coding.specs.Bits.{are_bits}
 use Rattle.line.specs.declared.refusal.LineRefusal.{LineRefusal}
 use Rattle.line.specs.declared.refusal.LineRefusal.TheVariants.{WrongLength, NotABit}
@@ -18,6 +19,9 @@ half_of NotABit = 0
 abbrev pub place_of : LineRefusal → ℕ
 place_of WrongLength = 0
 place_of NotABit = 0
+
+abbrev pub report_of : LineRefusal → Report
+report_of r = record { number = number_of r; half = half_of r; place = place_of r }
 
 -- the line length of n, if n is taken
 abbrev pub length_of : Model → ℕ → Option ℕ

@@ -22,7 +22,7 @@ pub trait Line {
     fn line_length(&self, n: usize) -> Option<usize>
         ensures { result ≡ length_of (model self.now) n };
 
-    /// Writes the line bits of `word`. `last` is the last bit that went over the line before.
+    /// Writes the line bits of `word`. `last` is the last bit that went over the line before; it comes beside the output, since a decode has none.
     fn encode(&self, word: &[u8], last: u8, out: &mut [u8]) -> Result<(), LineRefusal>
         ensures answer { result ≡ encode_answer (model self.now) word.now last out.old }
         ensures output { out.new ≡ encode_output (model self.now) word.now last out.old };

@@ -3,11 +3,12 @@
 ghost use Rattle.line.specs.Stages.{differential as differential_model};
 ghost use Rattle.line.proofs.DifferentialRules.{differential_rules};
 
-use crate::bits::{are_bits, sum};
+use crate::bits::sum;
+use crate::checks::{check_bits, check_word};
 use line::{LONGEST, Line, LineRefusal};
 
 /// Sends a bit as a change of the line bit, or none. It begins with the last bit of the line.
-#[derive(Clone, Copy)]
+#[derive(Clone, Copy, PartialEq, Eq, Debug)]
 pub struct Differential;
 
 impl Line for Differential {
@@ -20,30 +21,22 @@ impl Line for Differential {
     }
 
     fn encode(&self, word: &[u8], last: u8, out: &mut [u8]) -> Result<(), LineRefusal> {
-        if word.len() >= LONGEST || out.len() != word.len() + 1 {
-            return Err(LineRefusal::WrongLength);
-        }
-        if !are_bits(word) || last > 1 {
-            return Err(LineRefusal::NotABit);
-        }
+        check_word(self.line_length(word.len()), word, last, out)?;
         let mut line_bit = last;
         out[0] = line_bit;
-        for i in 0..word.len() {
-            line_bit = sum(line_bit, word[i]);
+        // by place: of what a zip with `iter_mut` writes a proof knows nothing (tried)
+        for (i, bit) in word.iter().enumerate() {
+            line_bit = sum(line_bit, *bit);
             out[i + 1] = line_bit;
         }
         Ok(())
     }
 
     fn decode(&self, bits: &[u8], out: &mut [u8]) -> Result<(), LineRefusal> {
-        if out.len() >= LONGEST || bits.len() != out.len() + 1 {
-            return Err(LineRefusal::WrongLength);
-        }
-        if !are_bits(bits) {
-            return Err(LineRefusal::NotABit);
-        }
-        for i in 0..out.len() {
-            out[i] = sum(bits[i], bits[i + 1]);
+        check_bits(self.line_length(out.len()), bits, out)?;
+        // by place: a proof knows nothing of `out` after a zip with its `iter_mut`
+        for (i, bit) in out.iter_mut().enumerate() {
+            *bit = sum(bits[i], bits[i + 1]);
         }
         Ok(())
     }

@@ -3,6 +3,7 @@
 #![tactic(auto)]
 
 mod bits;
+mod checks;
 mod differential;
 mod repetition;
 mod scrambling;

@@ -4,11 +4,11 @@ ghost use Rattle.std.specs.Prelude.{◌≡◌, ◌<◌};
 ghost use Rattle.line.specs.Stages.{repetition as repetition_model, vote};
 ghost use Rattle.line.proofs.RepetitionRules.{repetition_rules};
 
-use crate::bits::are_bits;
+use crate::checks::{check_bits, check_word};
 use line::{LONGEST, Line, LineRefusal};
 
 /// Sends the word four times over, and lets the four copies of a bit vote.
-#[derive(Clone, Copy)]
+#[derive(Clone, Copy, PartialEq, Eq, Debug)]
 pub struct Repetition;
 
 impl Line for Repetition {
@@ -21,32 +21,21 @@ impl Line for Repetition {
     }
 
     fn encode(&self, word: &[u8], last: u8, out: &mut [u8]) -> Result<(), LineRefusal> {
+        check_word(self.line_length(word.len()), word, last, out)?;
         let n = word.len();
-        if n > LONGEST / 4 || out.len() != 4 * n {
-            return Err(LineRefusal::WrongLength);
-        }
-        if !are_bits(word) || last > 1 {
-            return Err(LineRefusal::NotABit);
-        }
-        for i in 0..n {
-            out[i] = word[i];
-            out[n + i] = word[i];
-            out[2 * n + i] = word[i];
-            out[3 * n + i] = word[i];
-        }
+        out[..n].copy_from_slice(word);
+        out[n..2 * n].copy_from_slice(word);
+        out[2 * n..3 * n].copy_from_slice(word);
+        out[3 * n..].copy_from_slice(word);
         Ok(())
     }
 
     fn decode(&self, bits: &[u8], out: &mut [u8]) -> Result<(), LineRefusal> {
+        check_bits(self.line_length(out.len()), bits, out)?;
         let n = out.len();
-        if n > LONGEST / 4 || bits.len() != 4 * n {
-            return Err(LineRefusal::WrongLength);
-        }
-        if !are_bits(bits) {
-            return Err(LineRefusal::NotABit);
-        }
-        for i in 0..n {
-            out[i] = majority(bits[i], bits[n + i], bits[2 * n + i], bits[3 * n + i]);
+        // by place: a proof knows nothing of `out` after a zip with its `iter_mut`
+        for (i, bit) in out.iter_mut().enumerate() {
+            *bit = majority(bits[i], bits[n + i], bits[2 * n + i], bits[3 * n + i]);
         }
         Ok(())
     }

@@ -1,18 +1,19 @@
 //! Scrambling: a fixed sequence is added to the word.
 
-ghost use Rattle.std.specs.Prelude.{◌≡◌, ◌<◌, true, length, nat_le, slice_index};
+ghost use Rattle.std.specs.Prelude.{◌≡◌, ◌+◌, true, [], ◌∷◌, ◌++◌, drop, length, slice_index};
 ghost use Rattle.coding.specs.Bits.{are_bits, plus};
-ghost use Rattle.line.specs.Stages.{scrambling as scrambling_model, scrambled};
+ghost use Rattle.line.specs.Stages.{scrambling as scrambling_model, scrambled, listed, sequence};
 ghost use Rattle.line.proofs.ScramblingRules.{scrambling_rules};
 
-use crate::bits::{are_bits, sum};
+use crate::bits::sum;
+use crate::checks::{check_bits, check_word};
 use line::{LONGEST, Line, LineRefusal};
 
 /// The first bits of a word go as they are.
 const UNSCRAMBLED: usize = 22;
 
 /// Adds a fixed sequence to all but the first 22 bits of a word, so that no word makes long runs of one bit.
-#[derive(Clone, Copy)]
+#[derive(Clone, Copy, PartialEq, Eq, Debug)]
 pub struct Scrambling;
 
 impl Line for Scrambling {
@@ -25,23 +26,13 @@ impl Line for Scrambling {
     }
 
     fn encode(&self, word: &[u8], last: u8, out: &mut [u8]) -> Result<(), LineRefusal> {
-        if word.len() > LONGEST || out.len() != word.len() {
-            return Err(LineRefusal::WrongLength);
-        }
-        if !are_bits(word) || last > 1 {
-            return Err(LineRefusal::NotABit);
-        }
+        check_word(self.line_length(word.len()), word, last, out)?;
         scramble(word, out);
         Ok(())
     }
 
     fn decode(&self, bits: &[u8], out: &mut [u8]) -> Result<(), LineRefusal> {
-        if out.len() > LONGEST || bits.len() != out.len() {
-            return Err(LineRefusal::WrongLength);
-        }
-        if !are_bits(bits) {
-            return Err(LineRefusal::NotABit);
-        }
+        check_bits(self.line_length(out.len()), bits, out)?;
         scramble(bits, out);
         Ok(())
     }
@@ -52,30 +43,48 @@ fn scramble(word: &[u8], out: &mut [u8])
     requires { (are_bits word.now ≡ true) × (length out.old ≡ length word.now) }
     ensures { out.new ≡ scrambled word.now }
 {
-    let mut register: [u8; 9] = [0, 0, 1, 0, 0, 0, 0, 0, 1];
-    for (i, bit) in word.iter().enumerate() {
-        if is_scrambled(i) {
-            let next = feedback(&register);
-            let [_, a, b, c, d, e, f, g, h] = register;
-            register = [a, b, c, d, e, f, g, h, next];
-            out[i] = sum(*bit, next);
-        } else {
-            out[i] = *bit;
-        }
+    out.copy_from_slice(word);
+    let first = word.len().min(UNSCRAMBLED);
+    add_sequence(&mut out[first..]);
+}
+
+/// Adds the scrambling sequence to bits.
+fn add_sequence(bits: &mut [u8])
+    requires { are_bits bits.old ≡ true }
+    ensures { bits.new ≡ listed (λ i. plus (slice_index bits.old i) (sequence (i + 9))) (length bits.old) }
+{
+    let mut sequence = Sequence::new();
+    for bit in bits.iter_mut() {
+        *bit = sum(*bit, sequence.next_bit());
     }
 }
 
-/// Whether the sequence is added to the bit at this place.
-fn is_scrambled(place: usize) -> bool
-    ensures { result ≡ nat_le 22 place }
-{
-    place >= UNSCRAMBLED
+/// The scrambling sequence, by the nine bits before the next one, the oldest first.
+#[derive(Drop)]
+struct Sequence {
+    register: [u8; 9],
+    ghost bits: { are_bits register ≡ true },
 }
 
-/// The next bit of the sequence after the nine in the register: the sum of the ninth before it and the fifth.
-fn feedback(register: &[u8; 9]) -> u8
-    requires { (slice_index register.now 0 < 2) × (slice_index register.now 4 < 2) }
-    ensures { result ≡ plus (slice_index register.now 0) (slice_index register.now 4) }
-{
-    sum(register[0], register[4])
+impl Sequence {
+    /// The sequence from its first bit on.
+    fn new() -> Sequence
+        ensures { result.register ≡ listed sequence 9 }
+    {
+        Sequence {
+            register: [0, 0, 1, 0, 0, 0, 0, 0, 1],
+        }
+    }
+
+    /// The next bit: the sum of the ninth before it and the fifth.
+    fn next_bit(&mut self) -> u8
+        ensures bit { result ≡ plus (slice_index self.old.register 0) (slice_index self.old.register 4) }
+        ensures register { self.new.register ≡ drop 1 self.old.register ++ (result ∷ []) }
+    {
+        // nine names: a rotation in place would hide which bits are added
+        let [a, b, c, d, e, f, g, h, i] = self.register;
+        let next = sum(a, e);
+        self.register = [b, c, d, e, f, g, h, i, next];
+        next
+    }
 }

@@ -11,6 +11,8 @@ mod tests {
     use std::process::Abort;
     use std::test::Fail;
 
+    // The handles come first and the line after them, as everywhere: a struct of the three would hide which call needs which.
+
     // What encode answers to `n` octets with an output of `room` places.
     fn encode<L: Line>(
         heap: Global,

@@ -41,9 +41,11 @@ impl<U: Line, D: Line> Line for Cascade<U, D> {
         let Some(middle) = self.middle(word.len(), out.len()) else {
             return Err(LineRefusal::WrongLength);
         };
+        // fixed memory: there is no longer word
         let mut room = [0u8; LONGEST];
-        self.upper.encode(word, 0, &mut room[0..middle])?;
-        self.lower.encode(&room[0..middle], last, out)
+        let (between, _) = room.split_at_mut(middle);
+        self.upper.encode(word, 0, between)?;
+        self.lower.encode(between, last, out)
     }
 
     fn decode(&self, bits: &[u8], out: &mut [u8]) -> Result<(), LineRefusal> {
@@ -51,7 +53,8 @@ impl<U: Line, D: Line> Line for Cascade<U, D> {
             return Err(LineRefusal::WrongLength);
         };
         let mut room = [0u8; LONGEST];
-        self.lower.decode(bits, &mut room[0..middle])?;
-        self.upper.decode(&room[0..middle], out)
+        let (between, _) = room.split_at_mut(middle);
+        self.lower.decode(bits, between)?;
+        self.upper.decode(between, out)
     }
 }

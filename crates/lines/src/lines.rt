@@ -44,7 +44,8 @@ pub enum MarkedLine {
 }
 
 impl MarkedLine {
-    /// The line with this mark, if one has it.
+    /// The line with this mark, if one has it. (The mark is a number, as any may be handed in; no `TryFrom`, as an error
+    /// would say no more than `None`.)
     pub fn from_mark(mark: u32) -> Option<MarkedLine>
         ensures value { result ≡ chosen mark }
         ensures figures { Figures }
@@ -57,6 +58,7 @@ impl MarkedLine {
     }
 }
 
+// Each method chooses: a helper that lends the line to a closure, as `impl FnOnce(&dyn Line) -> R`, cannot be stated yet.
 impl Line for MarkedLine {
     ghost model = { marked };
 

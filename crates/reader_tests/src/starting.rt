@@ -1,7 +1,7 @@
 //! Two rounds from each frame of a round on.
 
-use crate::example::full_card;
 use carrier::{Air, send_two_rounds};
+use example_cards::card_of_seven_frames;
 use lines::MarkedLine;
 use std::process::Abort;
 use std::test::Fail;
@@ -14,22 +14,13 @@ impl Air for Still {
     fn carry(&mut self, _block: &mut [u8]) {}
 }
 
-/// From this frame on nothing is refused, one card is closed, and its latitude and longitude are those sent.
+/// From this frame on nothing is refused, one card is closed, and it is the card sent.
 fn starts(rt: &impl Abort, from: u32, last: u8) -> Result<(), Fail> {
-    let card = full_card()?;
+    let card = card_of_seven_frames()?;
     let came = send_two_rounds(&card, MarkedLine::Bench, from, last, &mut Still)?;
     assert_eq!(rt; (came.refused, came.closed), (0, 1));
-    match came.card {
-        Some(read) => {
-            assert!(rt; read.latitude() == card.latitude());
-            assert!(rt; read.longitude() == card.longitude());
-            Ok(())
-        }
-        None => {
-            assert!(rt; false);
-            Ok(())
-        },
-    }
+    assert!(rt; came.card == Some(card));
+    Ok(())
 }
 
 #[test]

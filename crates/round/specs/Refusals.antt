@@ -1,5 +1,6 @@
 -- The number, the half and the place of each refusal of a take. 0 stands where one has no meaning; the place is a Content ID.
 use Rattle.std.specs.Prelude.{ℕ}
+use Rattle.reports.specs.declared.report.Report.{Report}
 use Rattle.frame.specs.declared.refusal.FrameRefusal.{FrameRefusal}
 use Rattle.frame.specs.declared.refusal.FrameRefusal.TheVariants as frame
 use Rattle.round.specs.declared.refusal.TakeRefusal.{TakeRefusal}
@@ -34,6 +35,9 @@ place_of Identifier = 0
 place_of (ContentId half id) = id
 place_of (NoValue half id) = id
 place_of (BrokenOff half id) = id
+
+abbrev pub report_of : TakeRefusal → Report
+report_of r = record { number = number_of r; half = half_of r; place = place_of r }
 
 -- what is refused of a take as a frame
 abbrev pub of_frame : FrameRefusal → TakeRefusal

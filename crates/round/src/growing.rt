@@ -34,9 +34,9 @@ impl UnfinishedSet {
         ensures { result ≡ words_by self.now.last }
     {
         if self.last <= TELEPHONE_UNFINISHED {
-            self.last as usize - 2
+            usize::from(self.last) - 2
         } else {
-            self.last as usize - 5
+            usize::from(self.last) - 5
         }
     }
 
@@ -54,21 +54,13 @@ impl UnfinishedSet {
         }
     }
 
-    /// The three words of a telephone, of which this is the last.
-    pub(crate) fn telephone(&self, word: u32) -> [u32; 3]
-        requires { self.now.last ≡ 4 }
+    /// The words of the whole set, of which this is the last.
+    pub(crate) fn finished<const N: usize>(&self, word: u32) -> [u32; N]
+        requires { N ≡ words_by self.now.last + 1 }
         ensures { result ≡ words_of self.now ++ (word ∷ []) }
     {
-        [self.words[0], self.words[1], word]
-    }
-
-    /// The seven words of a message, of which this is the last.
-    pub(crate) fn message(&self, word: u32) -> [u32; 7]
-        requires { self.now.last ≡ 11 }
-        ensures { result ≡ words_of self.now ++ (word ∷ []) }
-    {
-        let mut words = self.words;
-        words[6] = word;
+        let mut words = [word; N];
+        words[..N - 1].copy_from_slice(&self.words[..N - 1]);
         words
     }
 }

@@ -1,5 +1,7 @@
 //! The reader of rounds.
 
+#![tactic(auto, unfolding(crate::specs::Rounds::card_after, crate::specs::Rounds::refusing, crate::specs::Rounds::accepting, crate::specs::Rounds::following, crate::specs::Rounds::on_frame, crate::specs::Rounds::on_take))]
+
 ghost use Rattle.std.specs.Prelude.{◌≡◌};
 ghost use Rattle.std.specs.Option.{option_map};
 ghost use Rattle.card.specs.Card.{value_of, on_ok};
@@ -8,8 +10,8 @@ ghost use Rattle.round.specs.Views.{answer_of, reading_of};
 ghost use Rattle.round.specs.Moves.{concluded};
 
 use crate::refusal::TakeRefusal;
-use crate::state::{Answer, Round, RoundReader};
-use crate::takes::{check_unique, move_round};
+use crate::state::{Answer, RoundReader};
+use crate::takes::check_unique;
 use card::Card;
 use frame::{Frame, FrameRefusal};
 
@@ -18,11 +20,7 @@ impl RoundReader {
     pub fn new() -> RoundReader
         ensures { reading_of result ≡ fresh }
     {
-        RoundReader {
-            round: Round::Waiting,
-            unique: None,
-            card: None,
-        }
+        RoundReader::default()
     }
 
     /// Takes a judged take in. A refused one closes nothing: the open round and the last unique word are forgotten, the card
@@ -56,7 +54,8 @@ impl RoundReader {
         let frame = judged?;
         check_unique(self.unique, frame.unique)?;
         let identifier = self.round.check_identifier(frame.identifier)?;
-        let (round, answer) = move_round(&self.round, &frame, identifier)?;
+        let round = self.round.halves(identifier, &frame)?;
+        let answer = self.round.told(frame.first.id);
         let after = RoundReader {
             round,
             unique: Some(frame.unique),

@@ -1,14 +1,12 @@
 //! What is refused of a take, and with which number.
 
 ghost use Rattle.std.specs.Prelude.{◌≡◌};
-ghost use Rattle.round.specs.Refusals.{number_of, half_of, place_of, of_frame};
+ghost use Rattle.round.specs.Refusals.{report_of, of_frame};
 
 use frame::FrameRefusal;
+use reports::{Refusal, Report};
 
-/// Stands where a refusal has no half, or no place.
-const NONE: u8 = 0;
-
-/// Why a take was not accepted.
+/// Why a take was not accepted. Half and Content ID stay the numbers that are reported: they are public, and any number may stand there.
 #[derive(Clone, Copy, PartialEq, Eq, Debug)]
 pub enum TakeRefusal {
     /// Neither unique word lies within six places.
@@ -29,48 +27,19 @@ pub enum TakeRefusal {
     BrokenOff { half: u8, id: u8 },
 }
 
-impl TakeRefusal {
-    /// The refusal's number.
-    pub fn number(self) -> u8
-        ensures { result ≡ number_of self }
-    {
-        match self {
-            TakeRefusal::UniqueWord => 16,
-            TakeRefusal::Codeword { .. } => 17,
-            TakeRefusal::Crc { .. } => 18,
-            TakeRefusal::SameUniqueWord => 19,
-            TakeRefusal::Identifier => 20,
-            TakeRefusal::ContentId { .. } => 21,
-            TakeRefusal::NoValue { .. } => 22,
-            TakeRefusal::BrokenOff { .. } => 23,
-        }
-    }
+impl Refusal for TakeRefusal {
+    ghost report_of = { report_of };
 
-    /// The half that is meant, 1 or 2; 0 where the whole take is.
-    pub fn half(self) -> u8
-        ensures { result ≡ half_of self }
-    {
+    fn report(self) -> Report {
         match self {
-            TakeRefusal::UniqueWord => NONE,
-            TakeRefusal::Codeword { half } => half,
-            TakeRefusal::Crc { half } => half,
-            TakeRefusal::SameUniqueWord => NONE,
-            TakeRefusal::Identifier => NONE,
-            TakeRefusal::ContentId { half, .. } => half,
-            TakeRefusal::NoValue { half, .. } => half,
-            TakeRefusal::BrokenOff { half, .. } => half,
-        }
-    }
-
-    /// The Content ID of the half that is meant; 0 where none is.
-    pub fn place(self) -> u8
-        ensures { result ≡ place_of self }
-    {
-        match self {
-            TakeRefusal::ContentId { id, .. } => id,
-            TakeRefusal::NoValue { id, .. } => id,
-            TakeRefusal::BrokenOff { id, .. } => id,
-            _ => NONE,
+            TakeRefusal::UniqueWord => Report::number_alone(16),
+            TakeRefusal::Codeword { half } => Report::in_half(17, half),
+            TakeRefusal::Crc { half } => Report::in_half(18, half),
+            TakeRefusal::SameUniqueWord => Report::number_alone(19),
+            TakeRefusal::Identifier => Report::number_alone(20),
+            TakeRefusal::ContentId { half, id } => Report::in_half_at_place(21, half, id),
+            TakeRefusal::NoValue { half, id } => Report::in_half_at_place(22, half, id),
+            TakeRefusal::BrokenOff { half, id } => Report::in_half_at_place(23, half, id),
         }
     }
 }

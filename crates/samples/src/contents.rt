@@ -5,10 +5,9 @@ use content::{
     Sequence, latitude_of, latitude_word, longitude_of, longitude_word, message_of, message_words,
     telephone_of, telephone_words,
 };
+use example_cards::bare_card;
 use std::process::Abort;
 use std::test::Fail;
-
-const NINE: [u8; 9] = [0x75, 0x00, 0x06, 0xB0, 0xFF, 0xFF, 0x01, 0xAC, 0x07];
 
 #[test]
 fn coordinates_both_ways(rt: HostRuntime) {
@@ -71,10 +70,10 @@ fn words_that_no_coordinate_has(rt: HostRuntime) {
 fn telephone_both_ways(rt: HostRuntime) -> Result<(), Fail> {
     let words = telephone_words(&Telephone::new(b"14803332200e1835")?);
     assert!(rt; words == [0x148033, 0x32200D, 0x1835FF]);
-    match telephone_of(&words) {
-        Some(telephone) => assert!(rt; telephone.symbols() == b"14803332200e1835".as_slice()),
-        None => return Err(Fail::new("no telephone")),
-    }
+    assert_eq!(rt;
+        telephone_of(&words),
+        Some(Telephone::new(b"14803332200e1835")?)
+    );
     // padding alone, padding in the middle, a group that is no symbol, e first, e twice, more than 24 bits
     let none = [
         [0xFFFFFF, 0xFFFFFF, 0xFFFFFF],
@@ -94,10 +93,7 @@ fn telephone_both_ways(rt: HostRuntime) -> Result<(), Fail> {
 fn message_both_ways(rt: HostRuntime) -> Result<(), Fail> {
     let words = message_words(&Message::new(b"HELLO")?);
     assert!(rt; words == [0x911664, 0xC9E000, 0, 0, 0, 0, 0]);
-    match message_of(&words) {
-        Some(message) => assert!(rt; message.octets() == b"HELLO".as_slice()),
-        None => return Err(Fail::new("no message")),
-    }
+    assert_eq!(rt; message_of(&words), Some(Message::new(b"HELLO")?));
     // zeros alone, a character after the padding, a control character, more than 24 bits
     for words in [
         [0; 7],
@@ -116,14 +112,12 @@ fn has_ids(rt: &impl Abort, card: &Card, ids: &[u8]) {
     let entries = sequence.entries();
     assert_eq!(rt; entries.len(), ids.len());
     assert_eq!(rt; 2 * sequence.frames(), ids.len());
-    for (entry, id) in entries.iter().zip(ids) {
-        assert_eq!(rt; entry.id, *id);
-    }
+    assert!(rt; entries.iter().map(|entry| entry.id).eq(ids.iter().copied()));
 }
 
 #[test]
 fn sequences_of_cards(rt: HostRuntime) -> Result<(), Fail> {
-    let mut card = Card::open(&NINE)?;
+    let mut card = bare_card()?;
     has_ids(&rt, &card, &[0, 0]);
     card.enter_message(b"HELLO")?;
     has_ids(&rt, &card, &[0, 6, 7, 8, 9, 10, 11, 12]);

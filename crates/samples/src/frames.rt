@@ -1,47 +1,25 @@
 //! Frames: built, damaged and judged.
 
-use card::Card;
+use crate::refusals::refused;
+use example_cards::card_of_seven_frames;
 use frame::{Frame, FrameRefusal, judge};
+use reports::{Refusal, Report};
 use std::test::Fail;
 
-const NINE: [u8; 9] = [0x75, 0x00, 0x06, 0xB0, 0xFF, 0xFF, 0x01, 0xAC, 0x07];
-
-/// A card of seven frames.
-fn full() -> Result<Card, Fail> {
-    let mut card = Card::open(&NINE)?;
-    card.enter_latitude(12, 4590, 1)?;
-    card.enter_longitude(23, 3445, 0)?;
-    card.enter_telephone(b"14803332200e1835")?;
-    card.enter_message(b"HELLO")?;
-    Ok(card)
-}
-
-/// Whether 244 bits are judged as this frame.
-fn judged_as(bits: &[u8; 244], frame: &Frame) -> bool {
-    match judge(bits) {
-        Ok(found) => {
-            found.unique == frame.unique
-                && found.identifier == frame.identifier
-                && found.first.id == frame.first.id
-                && found.first.word == frame.first.word
-                && found.second.id == frame.second.id
-                && found.second.word == frame.second.word
+/// The bits with those at some places flipped.
+fn flipped(bits: &[u8; 244], places: &[usize]) -> [u8; 244] {
+    let mut bits = *bits;
+    for place in places {
+        if let Some(bit) = bits.get_mut(*place) {
+            *bit ^= 1;
         }
-        Err(_) => false,
     }
-}
-
-/// The number and the half of a refusal, both 0 where the bits are judged.
-fn refused(bits: &[u8; 244]) -> (u8, u8) {
-    match judge(bits) {
-        Ok(_) => (0, 0),
-        Err(refusal) => (refusal.number(), refusal.half()),
-    }
+    bits
 }
 
 #[test]
 fn frames_follow_the_sequence(rt: HostRuntime) -> Result<(), Fail> {
-    let card = full()?;
+    let card = card_of_seven_frames()?;
     let ids = [
         (0, 1),
         (2, 3),
@@ -66,42 +44,39 @@ fn frames_follow_the_sequence(rt: HostRuntime) -> Result<(), Fail> {
 
 #[test]
 fn frames_are_judged_as_sent(rt: HostRuntime) -> Result<(), Fail> {
-    let card = full()?;
+    let card = card_of_seven_frames()?;
     for number in 0..7u32 {
         let frame = Frame::of(&card, number);
-        let mut bits = frame.bits();
-        assert!(rt; judged_as(&bits, &frame));
-        for place in [0, 21, 22, 132, 133, 243] {
-            bits[place] ^= 1;
-        }
-        assert!(rt; judged_as(&bits, &frame));
+        let bits = frame.bits();
+        assert_eq!(rt; judge(&bits), Ok(frame));
+        assert_eq!(rt;
+            judge(&flipped(&bits, &[0, 21, 22, 132, 133, 243])),
+            Ok(frame)
+        );
     }
     Ok(())
 }
 
 #[test]
 fn damage_beyond_six_places(rt: HostRuntime) -> Result<(), Fail> {
-    let frame = Frame::of(&full()?, 3);
-    let mut bits = frame.bits();
-    for place in 0..7usize {
-        bits[place] ^= 1;
-    }
-    assert_eq!(rt; refused(&bits), (16, 0));
+    let bits = Frame::of(&card_of_seven_frames()?, 3).bits();
+    assert_eq!(rt;
+        refused(judge(&flipped(&bits, &[0, 1, 2, 3, 4, 5, 6]))),
+        Some(Report::number_alone(16))
+    );
     assert_eq!(rt; FrameRefusal::UniqueWord.place(), 0);
     // seven errors in a half lie within six places of no codeword here
-    let mut bits = frame.bits();
-    for place in [22, 40, 60, 80, 100, 110, 120] {
-        bits[place] ^= 1;
-    }
-    assert_eq!(rt; refused(&bits), (17, 1));
-    let mut bits = frame.bits();
-    for place in [133, 150, 170, 190, 200, 220, 243] {
-        bits[place] ^= 1;
-    }
-    assert_eq!(rt; refused(&bits), (17, 2));
+    assert_eq!(rt;
+        refused(judge(&flipped(&bits, &[22, 40, 60, 80, 100, 110, 120]))),
+        Some(Report::in_half(17, 1))
+    );
+    assert_eq!(rt;
+        refused(judge(&flipped(&bits, &[133, 150, 170, 190, 200, 220, 243]))),
+        Some(Report::in_half(17, 2))
+    );
     // an octet that is no bit
-    let mut bits = frame.bits();
+    let mut bits = bits;
     bits[50] = 2;
-    assert_eq!(rt; refused(&bits), (17, 1));
+    assert_eq!(rt; refused(judge(&bits)), Some(Report::in_half(17, 1)));
     Ok(())
 }

@@ -11,4 +11,6 @@ mod contents;
 #[cfg(test)]
 mod frames;
 #[cfg(test)]
+mod refusals;
+#[cfg(test)]
 mod rounds;

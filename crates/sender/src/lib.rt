@@ -9,3 +9,4 @@ mod sending;
 
 pub use refusal::SenderRefusal;
 pub use sender::Sender;
+pub use sending::LAST_NUMBER;

@@ -1,12 +1,10 @@
 //! What a sender refuses, and with which number.
 
 ghost use Rattle.std.specs.Prelude.{◌≡◌};
-ghost use Rattle.sender.specs.Refusals.{number_of, half_of, place_of, of_block};
+ghost use Rattle.sender.specs.Refusals.{report_of, of_block};
 
 use chips::BlockRefusal;
-
-/// Stands where a refusal has no half, or no place.
-const NONE: u8 = 0;
+use reports::{Refusal, Report};
 
 /// Why a sender was not made, or did not write a block.
 #[derive(Clone, Copy, PartialEq, Eq, Debug)]
@@ -21,31 +19,16 @@ pub enum SenderRefusal {
     BlockLength,
 }
 
-impl SenderRefusal {
-    /// The refusal's number.
-    pub fn number(self) -> u8
-        ensures { result ≡ number_of self }
-    {
+impl Refusal for SenderRefusal {
+    ghost report_of = { report_of };
+
+    fn report(self) -> Report {
         match self {
-            SenderRefusal::FrameNotTaken => 12,
-            SenderRefusal::LastBit => 13,
-            SenderRefusal::FrameNumber => 14,
-            SenderRefusal::BlockLength => 15,
+            SenderRefusal::FrameNotTaken => Report::number_alone(12),
+            SenderRefusal::LastBit => Report::number_alone(13),
+            SenderRefusal::FrameNumber => Report::number_alone(14),
+            SenderRefusal::BlockLength => Report::number_alone(15),
         }
-    }
-
-    /// The half of a frame that is meant: 0, as a sender has none.
-    pub fn half(self) -> u8
-        ensures { result ≡ half_of self }
-    {
-        NONE
-    }
-
-    /// The place that is meant: 0, as there is none.
-    pub fn place(self) -> u8
-        ensures { result ≡ place_of self }
-    {
-        NONE
     }
 }
 

@@ -16,7 +16,8 @@ pub struct Sender<L> {
     pub(crate) last: u8,
     /// How many line bits a take has.
     pub(crate) size: usize,
-    /// How many of the take's line bits are sent; between takes all are.
+    /// How many of the take's line bits are sent; between takes all are. The bits stand in an array and not in a buffer, since the line
+    /// writes them into a slice.
     pub(crate) sent: usize,
     pub(crate) bits: [u8; LONGEST],
     ghost full: { length bits ≡ 4096 },

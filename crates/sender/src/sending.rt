@@ -10,18 +10,12 @@ ghost use Rattle.sender.specs.Signal.{StandardSignal};
 use crate::refusal::SenderRefusal;
 use crate::sender::Sender;
 use card::Card;
-use chips::spread;
-use frame::Frame;
+use chips::{BLOCK_OCTETS, spread};
+use frame::{FRAME_BITS, Frame};
 use line::{LONGEST, Line};
 
-/// The bits of a frame.
-const FRAME_BITS: usize = 244;
-
-/// The octets of a block.
-const BLOCK_OCTETS: usize = 512;
-
 /// The last frame number.
-const LAST_NUMBER: u32 = 999_999_999;
+pub const LAST_NUMBER: u32 = 999_999_999;
 
 impl<L: Line> Sender<L> {
     /// A sender for the card over the line, from the frame with this number on; `last` is the last bit on the line before it.
@@ -38,7 +32,7 @@ impl<L: Line> Sender<L> {
         Ok(Sender::between_takes(line, card, number, last, size))
     }
 
-    /// A sender between takes of `size` line bits.
+    /// A sender between takes of `size` line bits; number and last bit come one by one, as `new` takes them.
     fn between_takes(line: L, card: Card, number: u32, last: u8, size: usize) -> Sender<L>
         requires { (0 < size) × (size ≤ 4096) }
         ensures line { result.line ≡ line }
@@ -82,8 +76,17 @@ impl<L: Line> Sender<L> {
         ensures line { self.new.line ≡ self.old.line }
     {
         let word = Frame::of(&self.card, self.number).bits();
-        self.bits = line_bits(&self.line, &word, self.last, self.size);
+        self.bits = self.line_bits(&word);
         self.sent = 0;
+    }
+
+    /// What the line makes of a frame's bits, in the first `size` places.
+    fn line_bits(&self, word: &[u8; FRAME_BITS]) -> [u8; LONGEST]
+        ensures { take self.now.size result ≡ encode_output (L.Line.model self.now.line) word.now self.now.last (replicate self.now.size 0) }
+    {
+        let mut bits = [0; LONGEST];
+        encode_into(&self.line, word, self.last, &mut bits[0..self.size]);
+        bits
     }
 
     /// Begins the next take where no line bit is left of the last one.
@@ -145,18 +148,8 @@ fn check_call(number: u32, room: usize) -> Result<(), SenderRefusal>
     Ok(())
 }
 
-/// What the line makes of a frame's bits, in the first `size` places.
-fn line_bits<L: Line>(line: &L, word: &[u8; 244], last: u8, size: usize) -> [u8; LONGEST]
-    requires { size ≤ 4096 }
-    ensures { take size result ≡ encode_output (L.Line.model line.now) word.now last (replicate size 0) }
-{
-    let mut bits = [0; LONGEST];
-    encode_into(line, word, last, &mut bits[0..size]);
-    bits
-}
-
 /// Lets the line write what it makes of a frame's bits; a line that does not take them writes nothing.
-fn encode_into<L: Line>(line: &L, word: &[u8; 244], last: u8, out: &mut [u8])
+fn encode_into<L: Line>(line: &L, word: &[u8; FRAME_BITS], last: u8, out: &mut [u8])
     ensures { out.new ≡ encode_output (L.Line.model line.now) word.now last out.old }
 {
     let _ = line.encode(word, last, out);

@@ -3,7 +3,7 @@
 #![tactic(auto)]
 
 #[cfg(test)]
-mod example;
+mod digest;
 #[cfg(test)]
 mod refusals;
 #[cfg(test)]

@@ -1,10 +1,12 @@
 -- Equations of a system while columns are eliminated: what solves the one solves the other.
-use Rattle.std.proofs.Common.{◌≡◌, ℕ, zero, suc, ◌+◌, ◌-◌, ◌%◌, ◌<◌, ◌≤◌, List, [], ◌∷◌, length, get_or, take, drop, set, sym, refl, ap, ◌∙◌, subst, ap₂, mod-lt, mod-eq_of_lt, add-one, arith, lit<, length-set, length-take, drop-cons, get_or-set_same, drop-set-lt}
-use lib.Bits.{bit_xor, xor_comm, xor_lt, xor_zero_r, xor_self}
+use Rattle.std.proofs.Common.{◌≡◌, ℕ, zero, suc, ◌+◌, ◌-◌, ◌%◌, ◌<◌, ◌≤◌, List, [], ◌∷◌, ◌++◌, Option, Some, None, fold, replicate, length, get_or, take, drop, set, sym, refl, ap, ◌∙◌, subst, ap₂, mod-lt, mod-eq_of_lt, add-one, arith, lit<, length-set, length-take, drop-cons, get_or-set_same, drop-set-lt}
+use Rattle.std.specs.List.{zip}
+use Rattle.std.proofs.lemmas.List.{take_more, get_or-take}
+use lib.Bits.{bit_xor, xor_comm, xor_assoc, xor_lt, xor_zero_r, xor_self}
 use Rattle.field.specs.Field.{mul, inverse}
 use Rattle.field.proofs.Elements.{comm, assoc, mul_mod, mul_small, one_mul, zero_r, zero_l, cancel, ring, inverts}
 use Rattle.solver.specs.Linear.{side_from}
-use Rattle.solver.specs.Elimination.{Clear, SolveFrom, Combined, Eliminated}
+use Rattle.solver.specs.Elimination.{Clear, SolveFrom, Solved, Combined, Eliminated}
 
 residue : (x : ℕ) → x % 128 < 128
 residue x = mod-lt x (lit< tt)
@@ -24,25 +26,47 @@ side_constant : (r : List ℕ) (col : ℕ) → side_from col r [] ≡ get_or r c
 unfolding side_from
 side_constant r col = refl
 
--- from the constant back
-pub side_last : (row ys : List ℕ) (v : ℕ) → get_or row v 0 % 128 ≡ side_from v row (take (v - v) ys)
-side_last row ys v =
-    let e : v - v ≡ 0 = omega arith in
-    sym (side_constant row v) ∙ ap (λ (n : ℕ). side_from v row (take n ys)) (sym e)
+-- what stands before the column and behind the constant does not matter
+side_behind : (col a : ℕ) (r ys : List ℕ) → side_from (suc col) (a ∷ r) ys ≡ side_from col r ys
+unfolding side_from
+side_behind col a r [] = refl
+side_behind col a r (y ∷ ys) = ap (bit_xor (mul (get_or r col 0) y)) (side_behind (suc col) a r ys)
 
-pub side_back : (row xs : List ℕ) (j v s : ℕ) → 0 < j → j ≤ v → v ≤ length xs
-    → s ≡ side_from j row (take (v - j) (drop j xs))
-    → bit_xor s (mul (get_or row (j - 1) 0) (get_or xs (j - 1) 0)) ≡ side_from (j - 1) row (take (v - (j - 1)) (drop (j - 1) xs))
-side_back row xs zero v s p h hx e = absurd (omega arith)
-side_back row xs (suc j) v s p h hx e =
-    let f : suc j - 1 ≡ j = omega arith in
-    let g : v - j ≡ suc (v - suc j) = omega arith in
-    let ys : List ℕ = take (v - suc j) (drop (suc j) xs) in
-    ap₂ (λ (m s : ℕ). bit_xor s (mul (get_or row m 0) (get_or xs m 0))) f e
-    ∙ xor_comm (side_from (suc j) row ys) (mul (get_or row j 0) (get_or xs j 0))
-    ∙ sym (side_head row j (get_or xs j 0) ys)
-    ∙ ap (side_from j row) (sym (ap₂ take g (drop-cons xs j 0 (omega arith))))
-    ∙ ap (λ (m : ℕ). side_from m row (take (v - m) (drop m xs))) (sym f)
+side_take : (n col : ℕ) (r ys : List ℕ) → col + length ys < n → side_from col (take n r) ys ≡ side_from col r ys
+unfolding side_from
+side_take n col r [] h = ap (λ (z : ℕ). z % 128) (get_or-take n r col 0 (omega arith))
+side_take n col r (y ∷ ys) h =
+    ap₂ (λ (a s : ℕ). bit_xor (mul a y) s) (get_or-take n r col 0 (omega arith)) (side_take n (suc col) r ys (omega arith))
+
+-- the part of an equation from the column on to the constant at v
+pub side_part : (col v : ℕ) (r ys : List ℕ) → col ≤ v → v < length r → length ys ≡ v - col
+    → side_from 0 (take (v - col) (drop col r) ++ (get_or r v 0 ∷ [])) ys ≡ side_from col r ys
+side_part zero v r ys h l e =
+    let all : v - 0 ≡ v = omega arith in
+    ap (λ (n : ℕ). side_from 0 (take n r ++ (get_or r v 0 ∷ [])) ys) all
+    ∙ ap (λ (z : List ℕ). side_from 0 z ys) (sym (take_more r v 0 l)) ∙ side_take (v + 1) 0 r ys (omega arith)
+side_part (suc col) zero r ys h l e = absurd (omega arith)
+side_part (suc col) (suc v) [] ys h l e = absurd (omega arith)
+side_part (suc col) (suc v) (a ∷ r) ys h l e =
+    let less : suc v - suc col ≡ v - col = omega arith in
+    ap (λ (n : ℕ). side_from 0 (take n (drop col r) ++ (get_or r v 0 ∷ [])) ys) less
+    ∙ side_part col v r ys (omega arith) (omega arith) (omega arith) ∙ sym (side_behind col a r ys)
+
+-- the sum of the products
+pub side_sum : (cs xs : List ℕ) (c s : ℕ) → length cs ≡ length xs
+    → fold (λ (s : ℕ) (p : ℕ × ℕ). bit_xor s (mul p.0 p.1)) (bit_xor s (c % 128)) (zip cs xs) ≡ bit_xor s (side_from 0 (cs ++ (c ∷ [])) xs)
+unfolding side_from
+side_sum [] [] c s e = refl
+side_sum [] (x ∷ xs) c s e = absurd (omega arith)
+side_sum (a ∷ cs) [] c s e = absurd (omega arith)
+side_sum (a ∷ cs) (x ∷ xs) c s e =
+    let m : ℕ = mul a x in
+    let t : ℕ = c % 128 in
+    ap (λ (z : ℕ). fold (λ (s : ℕ) (p : ℕ × ℕ). bit_xor s (mul p.0 p.1)) z (zip cs xs))
+    (xor_assoc s t m ∙ ap (bit_xor s) (xor_comm t m) ∙ sym (xor_assoc s m t))
+    ∙ side_sum cs xs c (bit_xor s m) (omega arith)
+    ∙ xor_assoc s m (side_from 0 (cs ++ (c ∷ [])) xs)
+    ∙ ap (λ (z : ℕ). bit_xor s (bit_xor m z)) (sym (side_behind 0 a (cs ++ (c ∷ [])) xs))
 
 -- ---- a combination of two equations
 residue_combined : (a b x y : ℕ) → bit_xor (mul a x) (mul b y) % 128 ≡ bit_xor (mul a (x % 128)) (mul b (y % 128))
@@ -115,13 +139,17 @@ pivot_zero p col s ys pos e =
     ∙ xor_self s
 
 -- ---- the values, from a column on, with one more in front
+values_split : (xs : List ℕ) (col v : ℕ) → col < v → v ≤ length xs
+    → take (v - col) (drop col xs) ≡ get_or xs col 0 ∷ take (v - suc col) (drop (suc col) xs)
+values_split xs col v h l =
+    let g : v - col ≡ suc (v - suc col) = omega arith in
+    ap₂ take g (drop-cons xs col 0 (omega arith))
+
 values_more : (xs : List ℕ) (col v y : ℕ) → col < v → v ≤ length xs
     → take (v - col) (drop col (set xs col y)) ≡ y ∷ take (v - suc col) (drop (suc col) xs)
 values_more xs col v y h l =
-    let g : v - col ≡ suc (v - suc col) = omega arith in
-    let k : col < length xs = omega arith in
-    ap₂ take g (drop-cons (set xs col y) col 0 (omega (arith, length-set xs col y)))
-    ∙ ap₂ (λ (a : ℕ) (r : List ℕ). a ∷ take (v - suc col) r) (get_or-set_same xs col y 0 k) (drop-set-lt (suc col) xs col y (omega arith))
+    values_split (set xs col y) col v h (omega (arith, length-set xs col y))
+    ∙ ap₂ (λ (a : ℕ) (r : List ℕ). a ∷ take (v - suc col) r) (get_or-set_same xs col y 0 (omega arith)) (drop-set-lt (suc col) xs col y (omega arith))
 
 values_length : (xs : List ℕ) (col v : ℕ) → length (take (v - col) (drop col xs)) ≤ v - col
 values_length xs col v = omega (arith, length-take (v - col) (drop col xs))
@@ -133,25 +161,34 @@ small_set (x ∷ xs) zero y h hy (suc k) = h (suc k)
 small_set (x ∷ xs) (suc i) y h hy zero = h 0
 small_set (x ∷ xs) (suc i) y h hy (suc k) = small_set xs i y (λ k. h (suc k)) hy k
 
+pub small_zeros : (n k : ℕ) → get_or (replicate n 0) k 0 < 128
+small_zeros zero k = lit< tt
+small_zeros (suc n) zero = lit< tt
+small_zeros (suc n) (suc k) = small_zeros n k
+
 -- ---- the whole system
 after : (r ys : List ℕ) (col : ℕ) → side_from (suc col) r ys ≡ 0 → side_from (col + 1) r ys ≡ 0
 after r ys col e = ap (λ (m : ℕ). side_from m r ys) (add-one col) ∙ e
 
 module _ (rows : List (List ℕ)) (col v : ℕ) (h : col < v) (l : v ≤ 6) where
   module _ (z : Clear rows col) where
-    pub free_solved : (xs : List ℕ) (y : ℕ) → length xs ≡ 6
+    free_solved : (xs : List ℕ) → length xs ≡ 6
         → SolveFrom (col + 1) rows (take (v - (col + 1)) (drop (col + 1) xs))
-        → SolveFrom col rows (take (v - col) (drop col (set xs col y)))
-    free_solved xs y e s i k =
-        ap (side_from col (get_or rows i [])) (values_more xs col v y h (omega arith))
-        ∙ row_free (get_or rows i []) col y (take (v - suc col) (drop (suc col) xs)) (z i k)
+        → SolveFrom col rows (take (v - col) (drop col xs))
+    free_solved xs e s i k =
+        ap (side_from col (get_or rows i [])) (values_split xs col v h (omega arith))
+        ∙ row_free (get_or rows i []) col (get_or xs col 0) (take (v - suc col) (drop (suc col) xs)) (z i k)
         ∙ ap (λ (m : ℕ). side_from m (get_or rows i []) (take (v - m) (drop m xs))) (sym (add-one col)) ∙ s i k
 
-    pub free_none : ((ys : List ℕ) → length ys ≡ v - (col + 1) → SolveFrom (col + 1) rows ys → ⊥)
+    free_none : ((ys : List ℕ) → length ys ≡ v - (col + 1) → SolveFrom (col + 1) rows ys → ⊥)
         → (ys : List ℕ) → length ys ≡ v - col → SolveFrom col rows ys → ⊥
     free_none f [] e s = omega arith
     free_none f (y ∷ ys) e s =
         f ys (omega arith) (λ i k. after (get_or rows i []) ys col (sym (row_free (get_or rows i []) col y ys (z i k)) ∙ s i k))
+
+    pub free : (r : Option (List ℕ)) → Solved (col + 1) v rows r → Solved col v rows r
+    free None f = free_none f
+    free (Some xs) f = (f.0, free_solved xs f.0 f.1, f.2)
 
   module _ (p : ℕ) (hp : p < length rows) (new : List (List ℕ)) (same : length new ≡ length rows)
       (m : Eliminated col (get_or rows p []) rows new)

@@ -24,8 +24,12 @@ pub struct Damage<'a> {
 
 impl Air for Damage<'_> {
     fn carry(&mut self, block: &mut [u8]) {
-        let whole = is_among(self.place, self.whole);
-        self.flipped = self.flipped.saturating_add(flip_chips(block, whole));
+        let flipped = if self.whole.contains(&self.place) {
+            flip(block, |_| EIGHT_CHIPS)
+        } else {
+            flip(block, first_chips)
+        };
+        self.flipped = self.flipped.saturating_add(flipped);
         self.place = next_place(self.place, self.size);
     }
 }
@@ -36,32 +40,21 @@ fn next_place(place: usize, size: usize) -> usize {
     if next < size { next } else { 0 }
 }
 
-/// Whether the place is one of these.
-fn is_among(place: usize, places: &[usize]) -> bool {
-    for other in places {
-        if *other == place {
-            return true;
-        }
-    }
-    false
-}
-
-/// Flips every chip of a block or 2,047, and tells how many were flipped.
-fn flip_chips(block: &mut [u8], whole: bool) -> u64 {
+/// Flips chips of the octet at each place of a block, and tells how many were flipped.
+fn flip<F: Fn(usize) -> u8>(block: &mut [u8], chips_at: F) -> u64
+    requires { F.IsAlwaysCallable chips_at }
+{
     let mut flipped = 0u64;
-    for place in 0..block.len() {
-        let chips = chips_at(place, whole);
-        block[place] ^= chips;
+    for (place, octet) in block.iter_mut().enumerate() {
+        let chips = chips_at(place);
+        *octet ^= chips;
         flipped = flipped.saturating_add(u64::from(chips.count_ones()));
     }
     flipped
 }
 
-/// The chips that are flipped in the octet at this place.
-fn chips_at(place: usize, whole: bool) -> u8 {
-    if whole {
-        return EIGHT_CHIPS;
-    }
+/// The first 2,047 chips of a block, by the octet at a place.
+fn first_chips(place: usize) -> u8 {
     if place < OCTETS_FLIPPED {
         return EIGHT_CHIPS;
     }

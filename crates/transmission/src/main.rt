@@ -9,12 +9,13 @@ mod sending;
 mod two_rounds;
 
 use card::Card;
+use reports::Refusal;
 use std::io;
 
 fn main(rt: HostRuntime) -> io::Result<()> {
     match drawing::drawn_up() {
         Ok(card) => run(&rt, card),
-        Err(refusal) => drawing::tell_refusal(&rt, refusal),
+        Err(refusal) => println!(&rt; "{}", refusal.report()),
     }
 }
 

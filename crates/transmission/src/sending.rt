@@ -1,13 +1,13 @@
 //! Sends a card over the standard's and the bench's line, tells how the first take of each begins and ends, and shows what is refused.
 
 use card::Card;
+use example_sending::next_block;
+use frame::FRAME_BITS;
 use line::Line;
 use lines::{BENCH, STANDARD};
+use reports::Refusal;
 use sender::{Sender, SenderRefusal};
 use std::io;
-
-/// The bits of a frame.
-const FRAME_BITS: usize = 244;
 
 /// How many of a take's first blocks are told.
 const TOLD: usize = 4;
@@ -29,42 +29,26 @@ pub fn run(rt: &HostRuntime, card: Card) -> io::Result<()> {
 
 /// Sends the take of frame 0.
 fn send<L: Line + Drop>(rt: &HostRuntime, card: Card, line: L) -> io::Result<()> {
-    let blocks = line.line_length(FRAME_BITS).unwrap_or(0);
+    let Some(blocks) = line.line_length(FRAME_BITS) else {
+        return println!(rt; "  no frame goes over the line");
+    };
     println!(rt; "  a take has {blocks} blocks of 512 octets")?;
     match Sender::new(card, line, 0, 0) {
         Ok(mut sender) => send_take(rt, &mut sender, blocks),
-        Err(refusal) => tell_refusal(rt, refusal),
+        Err(refusal) => println!(rt; "  {}", refusal.report()),
     }
 }
 
 /// Sends so many blocks, and tells the first few and the last.
 fn send_take<L: Line>(rt: &HostRuntime, sender: &mut Sender<L>, blocks: usize) -> io::Result<()> {
-    for before in 0..blocks {
-        let number = before + 1;
-        send_block(rt, sender, number, number <= TOLD || number == blocks)?;
+    for number in 1..=blocks {
+        match next_block(sender) {
+            Ok(block) if number <= TOLD || number == blocks => tell_block(rt, number, &block)?,
+            Ok(_) => {}
+            Err(refusal) => println!(rt; "  {}", refusal.report())?,
+        }
     }
     Ok(())
-}
-
-/// Sends the next block, and tells it if it is to be told.
-fn send_block<L: Line>(
-    rt: &HostRuntime,
-    sender: &mut Sender<L>,
-    number: usize,
-    told: bool,
-) -> io::Result<()> {
-    match next(sender) {
-        Ok(block) if told => tell_block(rt, number, &block),
-        Ok(_) => Ok(()),
-        Err(refusal) => tell_refusal(rt, refusal),
-    }
-}
-
-/// The next block.
-fn next<L: Line>(sender: &mut Sender<L>) -> Result<[u8; 512], SenderRefusal> {
-    let mut out = [0; 512];
-    sender.next_block(&mut out)?;
-    Ok(out)
 }
 
 /// Tells how a block begins.
@@ -80,17 +64,11 @@ fn tell_block(rt: &HostRuntime, number: usize, block: &[u8; 512]) -> io::Result<
 fn send_short(rt: &HostRuntime, card: Card) -> io::Result<()> {
     match write_short(card) {
         Ok(()) => println!(rt; "  written"),
-        Err(refusal) => tell_refusal(rt, refusal),
+        Err(refusal) => println!(rt; "  {}", refusal.report()),
     }
 }
 
 /// What a sender answers to an output of 511 octets.
 fn write_short(card: Card) -> Result<(), SenderRefusal> {
     Sender::new(card, STANDARD, 0, 0)?.next_block(&mut [0; 511])
-}
-
-/// Tells a refusal's number.
-fn tell_refusal(rt: &HostRuntime, refusal: SenderRefusal) -> io::Result<()> {
-    let number = refusal.number();
-    println!(rt; "  refused with {number}")
 }

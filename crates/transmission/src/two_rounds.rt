@@ -5,13 +5,12 @@ use crate::damage::Damage;
 use crate::drawing::print;
 use card::Card;
 use carrier::{Reception, send_two_rounds};
+use frame::FRAME_BITS;
 use line::Line;
 use lines::MarkedLine;
+use reports::Refusal;
 use sender::SenderRefusal;
 use std::io;
-
-/// The bits of a frame.
-const FRAME_BITS: usize = 244;
 
 /// The first frame's number, in the middle of a round of seven.
 const FROM: u32 = 3;
@@ -46,7 +45,9 @@ pub fn run(rt: &HostRuntime, card: &Card) -> io::Result<()> {
 
 /// Sends two rounds, with these blocks of each take flipped whole, and tells what came of them.
 fn send(rt: &HostRuntime, card: &Card, line: MarkedLine, whole: &[usize]) -> io::Result<()> {
-    let size = line.line_length(FRAME_BITS).unwrap_or(0);
+    let Some(size) = line.line_length(FRAME_BITS) else {
+        return println!(rt; "  no frame goes over the line");
+    };
     let mut air = Damage {
         size,
         whole,
@@ -70,10 +71,7 @@ fn tell_damage(rt: &HostRuntime, size: usize, whole: usize, flipped: u64) -> io:
 fn tell(rt: &HostRuntime, answer: Result<Reception, SenderRefusal>) -> io::Result<()> {
     match answer {
         Ok(reception) => tell_reception(rt, &reception),
-        Err(refusal) => {
-            let number = refusal.number();
-            println!(rt; "  refused with {number}")
-        }
+        Err(refusal) => println!(rt; "  {}", refusal.report()),
     }
 }
 

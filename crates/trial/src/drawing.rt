@@ -1,28 +1,31 @@
 //! Draws up a card, changes it, shows what is refused, and prints it.
 
-use card::{Card, CardRefusal, LONGEST_TEXT};
+use card::{Card, CardRefusal};
+use example_cards::{NINE, printed};
+use reports::Refusal;
 use std::io;
 use std::io::Write;
-
-/// 75:00:06:B0:FF:FF:01:AC:07, the check octet first.
-const IDENTIFIER: [u8; 9] = [0x75, 0x00, 0x06, 0xB0, 0xFF, 0xFF, 0x01, 0xAC, 0x07];
 
 /// Opens a card and draws it up; none if opening it was refused.
 pub fn run(rt: &HostRuntime) -> io::Result<Option<Card>> {
     println!(rt; "Opening a card by 76:00:06:B0:FF:FF:01:AC:07, whose check octet is wrong.")?;
-    let mut octets = IDENTIFIER;
+    let mut octets = NINE;
     octets[0] = 0x76;
-    if let Err(refusal) = Card::open(&octets) {
-        tell_refusal(rt, refusal)?;
-    }
+    open(rt, &octets)?;
     println!(rt; "Opening a card by 75:00:06:B0:FF:FF:01:AC:07.")?;
-    match Card::open(&IDENTIFIER) {
-        Ok(mut card) => {
-            draw_up(rt, &mut card)?;
-            Ok(Some(card))
-        }
+    let Some(mut card) = open(rt, &NINE)? else {
+        return Ok(None);
+    };
+    draw_up(rt, &mut card)?;
+    Ok(Some(card))
+}
+
+/// The card that these octets open; where they are refused, tells why.
+fn open(rt: &HostRuntime, octets: &[u8]) -> io::Result<Option<Card>> {
+    match Card::open(octets) {
+        Ok(card) => Ok(Some(card)),
         Err(refusal) => {
-            tell_refusal(rt, refusal)?;
+            println!(rt; "  {}", refusal.report())?;
             Ok(None)
         }
     }
@@ -69,28 +72,12 @@ fn change(rt: &HostRuntime, card: &mut Card) -> io::Result<()> {
 fn tell(rt: &HostRuntime, answer: Result<(), CardRefusal>) -> io::Result<()> {
     match answer {
         Ok(()) => println!(rt; "  accepted"),
-        Err(refusal) => tell_refusal(rt, refusal),
-    }
-}
-
-/// Tells a refusal's number, and its place if it has one.
-fn tell_refusal(rt: &HostRuntime, refusal: CardRefusal) -> io::Result<()> {
-    let number = refusal.number();
-    match refusal.place() {
-        0 => println!(rt; "  refused with {number}"),
-        place => println!(rt; "  refused with {number} at place {place}"),
+        Err(refusal) => println!(rt; "  {}", refusal.report()),
     }
 }
 
 /// Prints the card's five lines.
 fn print_card(rt: &HostRuntime, card: &Card) -> io::Result<()> {
     println!(rt; "The card is now:")?;
-    let mut text = [0; LONGEST_TEXT];
-    match card.print(&mut text) {
-        Ok(len) => rt.stdout().write_all(&text[0..len]),
-        Err(refusal) => {
-            let number = refusal.number();
-            println!(rt; "  not printed, refused with {number}")
-        }
-    }
+    rt.stdout().write_all(printed(card).as_slice())
 }

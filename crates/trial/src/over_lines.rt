@@ -7,6 +7,7 @@ ghost use Rattle.coding.specs.Distance.{distance as apart};
 use coding::distance;
 use line::{Line, LineRefusal};
 use lines::{BENCH, STANDARD};
+use reports::Refusal;
 use std::io;
 
 /// Flips the bits at some places.
@@ -16,6 +17,7 @@ fn flip(bits: &mut [u8], places: &[usize])
     ensures few { apart bits.new bits.old ≤ length places.now }
 {
     for place in places {
+        // not `get_mut`, after which a proof knows nothing of the bits
         if *place < bits.len() {
             bits[*place] ^= 1;
         }
@@ -51,10 +53,7 @@ fn tell_damage<L: Line>(
     print!(rt; "  send 244 ones, flip {flipped} line bits{how}: ")?;
     match errors_left(line, &[1; 244], bits, places) {
         Ok(left) => println!(rt; "{left} errors left"),
-        Err(refusal) => {
-            let number = refusal.number();
-            println!(rt; "refused with {number}")
-        }
+        Err(refusal) => println!(rt; "{}", refusal.report()),
     }
 }
 
@@ -65,6 +64,8 @@ fn tell_length<L: Line>(rt: &HostRuntime, line: &L, n: usize) -> io::Result<()> 
         None => println!(rt; "  a word of {n} bits is too long"),
     }
 }
+
+// Told line by line: what differs between the two, lengths, places and words, is all that there is.
 
 /// The standard's line: lengths, then damage that it corrects, damage that it does not, and a refusal.
 fn tell_standard(rt: &HostRuntime) -> io::Result<()> {

@@ -1,17 +1,12 @@
-use Rattle.std.proofs.Common.{drop, ap, ◌∙◌, arith}
+use Rattle.std.proofs.Common.{ℕ, ◌%◌, ◌∙◌, rules}
+use Rattle.std.proofs.lemmas.Iterator.{YieldsList-from_slice, YieldsList-from_zip}
+use Rattle.std.proofs.lemmas.Iterator.Consumers.{fold_from_yields_List}
 use lib.Bits.{bit_xor}
-use Rattle.solver.proofs.Rows.{side_last, side_back}
+use Rattle.field.specs.Field.{mul}
+use Rattle.solver.proofs.Rows.{side_sum}
 use Rattle.solver.proofs.left_side.Goals as goal
 
-pub loop-j-init : goal.loop-j-init
-loop-j-init c = (omega arith, omega arith, side_last c.args.row.now (drop c.args.v c.args.xs.now) c.args.v)
-
-pub loop-j-preserved : goal.loop-j-preserved
-loop-j-preserved c = (
-  omega arith,
-  omega arith,
-  ap (bit_xor c.loop-j.sum) c.product-sum.ensures.is
-      ∙ side_back c.args.row.now c.args.xs.now c.loop-j.j c.args.v c.loop-j.sum (omega arith) (omega arith)
-      (omega arith)
-      c.loop-j.invariant.2,
-)
+pub returns : goal.returns
+returns c =
+    fold_from_yields_List _ (λ s (p : ℕ × ℕ). bit_xor s (mul p.0 p.1)) (c.args.constant % 128) c.fold.result c.fold.ensures.ran (YieldsList-from_zip (YieldsList-from_slice c.args.coefficients.now cc) (YieldsList-from_slice c.args.xs.now cc)) (λ a x b q k. search rules)
+    ∙ side_sum c.args.coefficients.now c.args.xs.now c.args.constant 0 c.requires

@@ -1,16 +1,21 @@
-use Rattle.std.proofs.Common.{◌+◌, ◌-◌, get_or, ◌∙◌, arith, length-set}
-use Rattle.bch.proofs.Systems.{coefficient_more, equation_made}
+use Rattle.std.proofs.Common.{◌≡◌, ◌+◌, ◌-◌, ◌<◌, ℕ, suc, length, get_or, ap, ◌∙◌, arith, rules, tests}
 use Rattle.bch.proofs.decoder.key_equation.Goals as goal
-
-pub loop-j-preserved : goal.loop-j-preserved
-loop-j-preserved c =
-    let s = c.args.s.now in
-    let j = c.loop-j.j in
-    let row = c.loop-j.row in (
-      length-set row j (get_or s (c.args.n + (c.args.v - (j + 1))) 0) ∙ c.loop-j.invariant.0,
-      coefficient_more s c.args.n c.args.v row j (omega arith) c.loop-j.invariant.1,
-    )
 
 pub returns : goal.returns
 returns c =
-    equation_made c.args.s.now c.args.n c.args.v c.loop-j.row (omega arith) (λ k l. c.loop-j.invariant.1 k (omega arith))
+    let s = c.args.syndromes.now in
+    let v : ℕ = length s - 1 in
+    record {
+      coefficient = λ j l.
+          let h : j < 7 = omega arith in
+          let u = c.from_fn.ensures.items.at j 0 h in
+          let e : v - 1 - j ≡ 0 + (v - suc j) = omega arith in
+          let r : get_or c.from_fn.result j 0 ≡ get_or s (v - 1 - j) 0 = search (rules, tests) in
+          r ∙ ap (λ (k : ℕ). get_or s k 0) e;
+      constant =
+          let h : v < 7 = omega arith in
+          let u = c.from_fn.ensures.items.at v 0 h in
+          let e : v ≡ 0 + v = omega arith in
+          let r : get_or c.from_fn.result v 0 ≡ get_or s v 0 = search (rules, tests) in
+          r ∙ ap (λ (k : ℕ). get_or s k 0) e;
+    }

@@ -1,10 +1,10 @@
-use Rattle.std.proofs.Common.{◌≡◌, ℕ, ◌-◌, ◌<◌, length, get_or}
+use Rattle.std.proofs.Common.{◌≡◌, ℕ, suc, ◌<◌, get_or}
 use Rattle.coding.specs.Bits.{bits}
 use Rattle.field.specs.Field.{exp, value}
 use Rattle.bch.proofs.decoder.syndromes.Given as goal
 
--- the syndromes before k are there
-abbrev pub invariant-loop-k : goal.invariant-loop-k
-invariant-loop-k l =
-    (l.x ≡ exp (l.k - 1)) × (length l.s ≡ 13)
-    × ((j : ℕ) → 0 < j → j < l.k → get_or l.s j 0 ≡ value (exp j) (bits 42 l.rest))
+-- the syndromes before the index are there
+abbrev pub invariant-loop-syndrome : goal.invariant-loop-syndrome
+invariant-loop-syndrome l =
+    (l.x ≡ exp l.syndrome-index)
+    × ((k : ℕ) → k < l.syndrome-index → get_or l.syndrome-items k 0 ≡ value (exp (suc k)) (bits 42 l.rest))

@@ -14,7 +14,7 @@ returns c =
     let d = c.args.«data».now in
     let bit : are_bits d ≡ true = sym c.if-not-are_bits.ensures in
     let e : c.with_parity.result ≡ encode d = encode_is d c.with_parity.result c.parity.result c.with_parity.ensures
-    c.parity.ensures.is in
+    c.parity.ensures in
     let code : Codeword c.with_parity.result = subst Codeword (sym e) (encoded_code d c.told-data bit) in
     record {
       is = ap Ok e ∙ sym (cond-true (are_bits d) (Ok (encode d)) (Err NotBits) bit);

@@ -1,25 +1,21 @@
-use Rattle.std.proofs.Common.{◌-◌, ◌%◌, refl, ◌∙◌, arith, length-set}
-use lib.Seq.{take-set-le}
-use Rattle.bch.proofs.Codewords.{parity_start, parity_more, parity_all}
+use Rattle.std.proofs.Common.{◌≡◌, ℕ, List, ◌++◌, length, drop, replicate, sym, ap, ◌∙◌, ap₂, append-nil, refl, take_at, drop_at, arith}
+use Rattle.std.proofs.lemmas.List.{drop_all}
+use borrow.Rule.Slice.PartMut.{put_mid}
+use Rattle.coding.specs.Bits.{bits}
+use Rattle.coding.proofs.Words.{length_bits}
 use Rattle.bch.proofs.encoder.with_parity.Goals as goal
 
-pub loop-i-init : goal.loop-i-init
-loop-i-init c =
-    parity_start c.copy_from_slice.new.self c.args.«data».now _ c.args.parity c.copy_from_slice.ensures.len
-    c.copy_from_slice.ensures.after refl
+joined : (d s z x : List ℕ) → length s ≡ 69 → length z ≡ 42 → s ≡ d → put_mid 69 42 (s ++ z) x ≡ d ++ x
+joined d s z x l m e =
+    ap₂ (λ (a b : List ℕ). a ++ (x ++ b)) (take_at s z 69 l ∙ e) (ap (drop 42) (drop_at s z 69 l) ∙ drop_all 42 z (omega arith))
+    ∙ ap (λ (q : List ℕ). d ++ q) (append-nil x)
 
-pub loop-i-preserved : goal.loop-i-preserved
-loop-i-preserved c =
-    let w = c.loop-i.word in
-    let i = c.loop-i.i in
-    let r = c.loop-i.rest in (
-      omega arith,
-      length-set w (i - 1) (r % 2) ∙ c.loop-i.invariant.1,
-      take-set-le 69 w (i - 1) (r % 2) (omega arith) ∙ c.loop-i.invariant.2,
-      parity_more _ w i r (omega arith) (omega arith) c.loop-i.invariant.1 c.loop-i.invariant.3,
-    )
+-- the bits of p, as many as there is room for
+filled : (out : List ℕ) (n m p : ℕ) → out ≡ bits n p → length out ≡ m → out ≡ bits m p
+filled out n m p e l = e ∙ ap (λ (k : ℕ). bits k p) (sym (length_bits n p) ∙ sym (ap length e) ∙ l)
 
 pub returns : goal.returns
 returns c =
-    parity_all c.args.«data».now c.loop-i.word _ c.loop-i.i c.loop-i.rest (omega arith) c.loop-i.invariant.2
-    c.loop-i.invariant.3
+    let d = c.args.«data».now in
+    joined d c.copy_from_slice.new.self (replicate 42 0) c.write_long.new.out (omega arith) refl c.copy_from_slice.ensures.after
+    ∙ ap (λ (q : List ℕ). d ++ q) (filled c.write_long.new.out _ 42 c.args.parity c.write_long.ensures (omega arith))

@@ -1,19 +1,13 @@
-use Rattle.std.proofs.Common.{ℕ, Err, sym, ap, ◌∙◌, arith}
+use Rattle.std.proofs.Common.{ℕ, Err, sym, ap, ◌∙◌}
 use Rattle.card.specs.Fields.{is_printing}
 use Rattle.card.specs.declared.refusal.CardRefusal.TheVariants.{MessageOctet}
-use Rattle.card.proofs.Scans.{passed_more, refused_at, accepted_all}
+use Rattle.card.proofs.Scans.{stopped, scanned}
 use Rattle.card.proofs.checking.check_octets.Goals as goal
 
-pub returns-then-not-is_printing : goal.returns-then-not-is_printing
-returns-then-not-is_printing c =
+pub returns-in-None : goal.returns-in-None
+returns-in-None c = ap (stopped MessageOctet) (sym c.in-None.is ∙ c.first_unprinted.ensures) ∙ scanned MessageOctet is_printing c.args.octets.now
+
+pub returns-in-Some : goal.returns-in-Some
+returns-in-Some c =
     ap (λ (n : ℕ). Err (MessageOctet n)) c.place_at.ensures
-    ∙ refused_at MessageOctet is_printing c.args.octets.now c.loop-i.i c.loop-i.invariant (omega arith)
-    (sym c.is_printing.ensures ∙ c.if-not-is_printing.true)
-
-pub loop-i-preserved : goal.loop-i-preserved
-loop-i-preserved c =
-    passed_more is_printing c.args.octets.now c.loop-i.i (omega arith)
-    (sym c.is_printing.ensures ∙ c.if-not-is_printing.false) c.loop-i.invariant
-
-pub returns : goal.returns
-returns c = accepted_all MessageOctet is_printing c.args.octets.now c.loop-i.i c.loop-i.invariant (omega arith)
+    ∙ ap (stopped MessageOctet) (sym c.in-Some.is ∙ c.first_unprinted.ensures) ∙ scanned MessageOctet is_printing c.args.octets.now

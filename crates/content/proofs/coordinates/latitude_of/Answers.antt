@@ -4,4 +4,4 @@ use Rattle.content.proofs.TakingApart.{coordinate_apart, kinds}
 use Rattle.content.proofs.coordinates.latitude_of.Goals as goal
 
 pub returns : goal.returns
-returns c = record { value = c.coordinate_of.ensures ∙ sym (coordinate_apart is_latitude 4 c.args.word); rule = kinds.latitude }
+returns c = record { value = c.coordinate.ensures ∙ sym (coordinate_apart is_latitude 4 c.args.word); rule = kinds.latitude }

@@ -1,6 +1,7 @@
+use Rattle.std.proofs.Common.{◌%◌, arith}
 use Rattle.field.proofs.Elements.{logarithms, logarithm}
 use Rattle.field.proofs.arithmetic.logarithm.Goals as goal
 
-pub returns : goal.returns
+pub returns-else-x-eq0 : goal.returns-else-x-eq0
 unfolding logarithms
-returns c = let l = logarithm c.args.x c.requires.0 c.requires.1 in record { is = l.0; small = l.1 }
+returns-else-x-eq0 c = logarithm (c.args.a % 128) (omega arith) (omega arith)

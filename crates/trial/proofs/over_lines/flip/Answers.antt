@@ -22,6 +22,3 @@ loop-place-preserved c =
           )
       | else-place-bits w ↦ rw w.bits-is (c.loop-place.invariant.0, omega (arith, c.loop-place.invariant.1))
     ]
-
-pub returns : goal.returns
-returns c = record { bits = c.loop-place.invariant.0; few = omega (arith, c.loop-place.invariant.1) }

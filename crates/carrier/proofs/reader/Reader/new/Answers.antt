@@ -1,4 +1,4 @@
-use Rattle.std.proofs.Common.{ℕ, [], take, Ok, ap, ◌∙◌}
+use Rattle.std.proofs.Common.{[], Ok, ap, ◌∙◌}
 use Rattle.round.specs.Rounds.{fresh}
 use Rattle.carrier.specs.Receiving.{receiving_of}
 use Rattle.carrier.proofs.Blocks.{same}
@@ -16,11 +16,8 @@ fresh-requires g c =
 
 pub returns : goal.returns
 returns g c =
-    let r = c.fresh.result in
     let is = c.fresh.ensures in
     record {
-      receiving =
-          ap Ok (same (receiving_of r) [] c.in-Some.size fresh (ap (λ (n : ℕ). take n r.bits) is.heard) is.size is.rounds)
-          ∙ made (g.L.Line.model c.args.line) c.in-Some.size c.in-Some.ensures;
+      receiving = ap Ok (same (receiving_of c.fresh.result) [] c.in-Some.size fresh is.heard is.size is.rounds) ∙ made (g.L.Line.model c.args.line) c.in-Some.size c.in-Some.ensures;
       line = is.line;
     }
