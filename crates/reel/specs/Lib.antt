@@ -1,0 +1,4 @@
+pub mod Refusals
+pub mod Numbers
+pub mod Reading
+pub mod Headers
