@@ -32,6 +32,10 @@ bit_at [] h i = lit< tt
 bit_at (b ∷ bs) h zero = (bits_parts b bs h).0
 bit_at (b ∷ bs) h (suc i) = bit_at bs (bits_parts b bs h).1 i
 
+pub bits_at : (w : List ℕ) → ((i : ℕ) → get_or w i 0 < 2) → are_bits w ≡ true
+bits_at [] h = refl
+bits_at (b ∷ bs) h = bits_join b bs (h 0) (bits_at bs (λ i. h (suc i)))
+
 pub bits_append : (xs ys : List ℕ) → are_bits xs ≡ true → are_bits ys ≡ true → are_bits (xs ++ ys) ≡ true
 bits_append [] ys h g = g
 bits_append (x ∷ xs) ys h g = let p = bits_parts x xs h in bits_join x (xs ++ ys) p.0 (bits_append xs ys p.1 g)
