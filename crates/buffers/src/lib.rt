@@ -34,6 +34,9 @@ mod tests {
         buffer.extend(&[8]);
         assert_eq!(rt; buffer.len(), 4);
         assert!(rt; *buffer.as_array() == [1, 2, 3, 4]);
+        buffer.clear();
+        assert_eq!(rt; buffer, Buffer::new());
+        assert!(rt; *buffer.as_array() == [0, 0, 0, 0]);
         let mut none = Buffer::<0>::new();
         none.push(1);
         assert_eq!(rt; none.len(), 0);

@@ -52,11 +52,22 @@ impl<const N: usize> Buffer<N> {
         &self.room
     }
 
+    /// Takes all octets out.
+    pub fn clear(&mut self)
+        ensures { text_of self.new ≡ [] }
+    {
+        self.room[..self.len].fill(0);
+        self.len = 0;
+    }
+
     /// Appends one octet, if there is room.
     pub fn push(&mut self, octet: u8)
         ensures { text_of self.new ≡ appended N (text_of self.old) (octet ∷ []) }
     {
-        self.extend(&[octet]);
+        if self.len < N {
+            self.room[self.len] = octet;
+            self.len += 1;
+        }
     }
 
     /// Appends as many of the octets as there is room for.

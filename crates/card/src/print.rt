@@ -39,6 +39,14 @@ fn hex_octet(octet: u8) -> [u8; 2]
     [hex_digit(octet / 16), hex_digit(octet % 16)]
 }
 
+/// A colon, and an octet in hexadecimal.
+fn colon_octet(octet: u8) -> [u8; 3]
+    ensures { result ≡ codes ":" ++ hex_octet octet }
+{
+    let [high, low] = hex_octet(octet);
+    [b':', high, low]
+}
+
 /// The character of one decimal digit of `value`: 1 for its last, 10 for the one before it, and so on.
 fn decimal(value: u16, unit: u16) -> u8
     requires { 0 < unit }
@@ -90,8 +98,7 @@ fn put_identifier(page: &mut Page, identifier: Identifier)
     page.extend(b"id ");
     page.extend(&hex_octet(identifier.check_octet()));
     for octet in identifier.octets() {
-        page.push(b':');
-        page.extend(&hex_octet(octet));
+        page.extend(&colon_octet(octet));
     }
     page.push(b'\n');
 }

@@ -75,7 +75,7 @@ impl<L: Line> Reader<L> {
         }
         let mut take = self.heard;
         take.push(bit);
-        self.heard = Heard::new();
+        self.heard.clear();
         Some(take)
     }
 
@@ -84,7 +84,7 @@ impl<L: Line> Reader<L> {
         ensures receiving { receiving_of self.new ≡ fresh_of (receiving_of self.old).size }
         ensures line { self.new.line ≡ self.old.line }
     {
-        self.heard = Heard::new();
+        self.heard.clear();
         self.rounds = RoundReader::new();
     }
 

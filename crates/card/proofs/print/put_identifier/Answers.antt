@@ -13,11 +13,11 @@ loop-octet-preserved c =
     let os = c.octets-octet-items.result in
     let i = c.loop-octet.octet-index in
     let more = ap colon_octets (take_more os i 0 (omega arith)) ∙ sym (flat_map_more (λ o. codes ":" ++ hex_octet o) [] (take i os) (get_or os i 0)) in
-    simp (c.extend-in-loop-octet.ensures, c.push.ensures, c.loop-octet.invariant, c.hex_octet-in-loop-octet.ensures, appended_appended, append_assoc, more)
+    simp (c.extend-in-loop-octet.ensures, c.loop-octet.invariant, c.colon_octet.ensures, appended_appended, append_assoc, more)
 
 pub returns : goal.returns
 returns c =
     let all : take c.loop-octet.octet-index c.octets-octet-items.result ≡ c.args.identifier.octets =
     take_all c.loop-octet.octet-index c.octets-octet-items.result (omega (arith, ap length c.octets-octet-items.ensures, c.args.identifier.eight)) ∙ c.octets-octet-items.ensures
     in
-    simp (c.push-2.ensures, c.loop-octet.invariant, c.extend-2.ensures, c.extend.ensures, c.hex_octet.ensures, c.check_octet.ensures, all, appended_appended, append_assoc)
+    simp (c.push.ensures, c.loop-octet.invariant, c.extend-2.ensures, c.extend.ensures, c.hex_octet.ensures, c.check_octet.ensures, all, appended_appended, append_assoc)

@@ -24,4 +24,4 @@ returns-clause-heard g c =
     let before = text_of s.heard in
     let long : length (before ++ (c.args.bit ∷ [])) ≡ length before + 1 = length-append before (c.args.bit ∷ []) in
     let heard = c.push-2.ensures ∙ appended_whole 4096 before (c.args.bit ∷ []) (omega (arith, s.room, s.within)) in
-    record { long = omega (arith, c.len.ensures.value, s.within); heard = heard; fresh = c.new-self.ensures }
+    record { long = omega (arith, c.len.ensures.value, s.within); heard = heard; fresh = c.clear.ensures }
